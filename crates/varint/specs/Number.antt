@@ -1,0 +1,49 @@
+-- Variable-length integers (RFC 9000 section 16), over lists of bytes as numbers.
+use Prim.Native.Nat.{ℕ, zero, suc, _+_, _-_, _*_, _/_, _%_, _^_}
+use mathlib.Core.List.{List, [], _∷_}
+use lib.ListN.{length, take}
+use lib.Dec.{ltb, leb}
+use Rattle.refusal.specs.Outcome.{Outcome, accepted, refused, pick, store}
+
+-- numbers that the wire form carries are below this
+abbrev pub bound : ℕ
+bound = 2 ^ 62
+
+-- the number that the bytes make, most significant first, after the number a
+abbrev pub valueFrom : ℕ → List ℕ → ℕ
+valueFrom a [] = a
+valueFrom a (b ∷ bs) = valueFrom (a * 256 + b) bs
+
+-- the low n bytes of v, most significant first
+abbrev pub bytesOf : ℕ → ℕ → List ℕ
+bytesOf zero v = []
+bytesOf (suc n) v = v / 256 ^ n % 256 ∷ bytesOf n v
+
+-- the two most significant bits of the first byte are the base-2 logarithm of the length in bytes; the number is on the remaining
+-- bits, in network byte order. 3 if no byte is there, or fewer than the first calls for; else the value and its byte count
+unfoldable pub readNumber : List ℕ → Outcome (ℕ × ℕ)
+readNumber [] = refused 3
+readNumber (b ∷ bs) =
+    pick (leb (2 ^ (b / 64)) (length (b ∷ bs)))
+    (accepted (valueFrom (b % 64) (take (2 ^ (b / 64) - 1) bs), 2 ^ (b / 64)))
+    (refused 3)
+
+-- v on the bits that tag k leaves, in network byte order
+unfoldable pub form : ℕ → ℕ → List ℕ
+form k v = (k * 64 + v / 256 ^ (2 ^ k - 1)) ∷ bytesOf (2 ^ k - 1) v
+
+-- the least tag whose form has room for v: 6, 14, 30 or 62 bits
+unfoldable pub tagOf : ℕ → ℕ
+tagOf v = pick (ltb v (2 ^ 6)) 0 (pick (ltb v (2 ^ 14)) 1 (pick (ltb v (2 ^ 30)) 2 3))
+
+-- the shortest form
+abbrev pub numberBytes : ℕ → List ℕ
+numberBytes v = form (tagOf v) v
+
+-- what writing v to a buffer answers, and the buffer afterwards: 4, then 5
+unfoldable pub writeNumber : ℕ → List ℕ → Outcome ℕ × List ℕ
+writeNumber v out = pick (ltb v bound) (store (numberBytes v) out) (refused 4, out)
+
+-- a number that the wire form carries: 4 for any other
+unfoldable pub convertNumber : ℕ → Outcome ℕ
+convertNumber v = pick (ltb v bound) (accepted v) (refused 4)

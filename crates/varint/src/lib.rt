@@ -1,0 +1,192 @@
+// Variable-length integers (RFC 9000 section 16): `VarInt` of quinn's varint.rs.
+ghost use mathlib.Core.Path.{_≡_};
+ghost use Prim.Native.Nat.{_+_, _*_, _/_, _%_, _^_, _<_, _≤_};
+ghost use lib.ListN.{length, getD};
+ghost use Rattle.refusal.specs.Outcome.{front};
+ghost use Rattle.varint.specs.Number.{tagOf, numberBytes, readNumber, writeNumber, convertNumber};
+ghost use Rattle.varint.specs.Answer.{convertOutcome, readOutcome, writeOutcome};
+use refusal::Refusal;
+
+pub struct VarInt(pub u64);
+
+// What a conversion gives.
+pub enum Converted {
+    Number(VarInt),
+    Refused(Refusal),
+}
+
+// What reading gives: the value and how many bytes it took.
+pub enum Decoded {
+    Value(u64, usize),
+    Refused(Refusal),
+}
+
+// What writing gives: how many bytes it stored.
+pub enum Encoded {
+    Count(usize),
+    Refused(Refusal),
+}
+
+impl VarInt {
+    // The largest number that the wire form carries.
+    pub const MAX: VarInt = VarInt((1 << 62) - 1);
+
+    // The longest form, in bytes.
+    pub const MAX_SIZE: usize = 8;
+
+    pub fn from_u32(x: u32) -> VarInt
+        ensures { λ r. ⌜ r .0 ≡ x ⌝ }
+    {
+        VarInt(x as u64)
+    }
+
+    pub fn from_u64(x: u64) -> Converted
+        ensures { λ r. ⌜ convertOutcome r ≡ convertNumber x ⌝ }
+    {
+        if VarInt::MAX.0 < x {
+            return Converted::Refused(Refusal::VarIntBoundsExceeded);
+        }
+        Converted::Number(VarInt(x))
+    }
+
+    pub fn into_inner(self) -> u64
+        ensures { λ r. ⌜ r ≡ self .0 ⌝ }
+    {
+        self.0
+    }
+
+    // How many bytes the shortest form has; 8 for a value that has none.
+    pub fn size(self) -> usize
+        ensures { λ r. ⌜ r ≡ length (numberBytes (self .0)) ⌝ }
+    {
+        let x = self.0;
+        if x < 64 {
+            1
+        } else if x < 16384 {
+            2
+        } else if x < 1073741824 {
+            4
+        } else {
+            VarInt::MAX_SIZE
+        }
+    }
+
+    // The number at the front of `src`. The one-byte form stands apart: most numbers are short.
+    pub fn decode(src: &[u8]) -> Decoded
+        ensures { λ r. ⌜ readOutcome r ≡ readNumber (now (src .entry)) ⌝ }
+    {
+        if src.len() == 0 {
+            return Decoded::Refused(Refusal::UnexpectedEnd);
+        }
+        let b = src[0];
+        let tag = b >> 6;
+        if tag == 0 {
+            return Decoded::Value(wide(b), 1);
+        }
+        decode_longer(tag, src)
+    }
+
+    // Writes the shortest form to the front of `out`.
+    pub fn encode(self, out: &mut [u8]) -> Encoded
+        ensures { λ r. ⌜ (writeOutcome r, now (out .exit)) ≡ writeNumber (self .0) (now (out .entry)) ⌝ }
+    {
+        let x = self.0;
+        if VarInt::MAX.0 < x {
+            return Encoded::Refused(Refusal::VarIntBoundsExceeded);
+        }
+        if out.len() < VarInt(x).size() {
+            return Encoded::Refused(Refusal::BufferTooShort);
+        }
+        Encoded::Count(put(x, out))
+    }
+}
+
+fn wide(x: u8) -> u64
+    ensures { λ r. ⌜ r ≡ x ⌝ }
+{
+    x as u64
+}
+
+// Two bytes as a number, high byte first.
+fn be16(a: u8, b: u8) -> u64
+    ensures { λ r. ⌜ (r ≡ a * 256 + b) × (r < 65536) ⌝ }
+{
+    (wide(a) << 8) | wide(b)
+}
+
+fn be32(a: u8, b: u8, c: u8, d: u8) -> u64
+    ensures { λ r. ⌜ (r ≡ ((a * 256 + b) * 256 + c) * 256 + d) × (r < 4294967296) ⌝ }
+{
+    (be16(a, b) << 16) | be16(c, d)
+}
+
+// A number of two, four or eight bytes, as `tag` of the first byte says.
+fn decode_longer(tag: u8, src: &[u8]) -> Decoded
+    requires { ⌜ (0 < length (now src)) × (tag ≡ getD (now src) 0 0 / 64) × (0 < tag) ⌝ }
+    ensures { λ r. ⌜ readOutcome r ≡ readNumber (now (src .entry)) ⌝ }
+{
+    let high = src[0] & 0x3f;
+    if tag == 1 {
+        if src.len() < 2 {
+            return Decoded::Refused(Refusal::UnexpectedEnd);
+        }
+        return Decoded::Value(be16(high, src[1]), 2);
+    }
+    if tag == 2 {
+        if src.len() < 4 {
+            return Decoded::Refused(Refusal::UnexpectedEnd);
+        }
+        return Decoded::Value(be32(high, src[1], src[2], src[3]), 4);
+    }
+    if src.len() < 8 {
+        return Decoded::Refused(Refusal::UnexpectedEnd);
+    }
+    let upper = be32(high, src[1], src[2], src[3]);
+    Decoded::Value((upper << 32) | be32(src[4], src[5], src[6], src[7]), 8)
+}
+
+// The low byte of a number.
+fn low(x: u64) -> u8
+    ensures { λ r. ⌜ r ≡ x % 256 ⌝ }
+{
+    (x % 256) as u8
+}
+
+// Stores the shortest form, for which there is room, and gives its length.
+fn put(x: u64, out: &mut [u8]) -> usize
+    requires { ⌜ (x < 2 ^ 62) × (length (numberBytes x) ≤ length (now out)) ⌝ }
+    ensures { λ r. ⌜ (r ≡ length (numberBytes x)) × (now (out .exit) ≡ front (numberBytes x) (now (out .entry))) ⌝ }
+{
+    if x < 64 {
+        out[0] = low(x);
+        return 1;
+    }
+    put_longer(x, out)
+}
+
+fn put_longer(x: u64, out: &mut [u8]) -> usize
+    requires { ⌜ (64 ≤ x) × (x < 2 ^ 62) × (length (numberBytes x) ≤ length (now out)) ⌝ }
+    ensures { λ r. ⌜ (r ≡ length (numberBytes x)) × (now (out .exit) ≡ front (numberBytes x) (now (out .entry))) ⌝ }
+{
+    if x < 16384 {
+        out[0] = low((1 << 6) | (x >> 8));
+        out[1] = low(x);
+        return 2;
+    }
+    if x < 1073741824 {
+        out[0] = low((2 << 6) | (x >> 24));
+        out[1] = low(x >> 16);
+        out[2] = low(x >> 8);
+        out[3] = low(x);
+        return 4;
+    }
+    out[0] = low((3 << 6) | (x >> 56));
+    out[1] = low(x >> 48);
+    out[2] = low(x >> 40);
+    out[3] = low(x >> 32);
+    out[4] = low(x >> 24);
+    out[5] = low(x >> 16);
+    out[6] = low(x >> 8);
+    out[7] = low(x);
+    VarInt::MAX_SIZE
+}
