@@ -3,7 +3,7 @@ ghost use mathlib.Core.Path.{_≡_};
 ghost use Prim.Native.Nat.{_+_, _*_, _/_, _%_, _^_, _<_, _≤_};
 ghost use lib.ListN.{length, getD};
 ghost use Rattle.refusal.specs.Outcome.{front};
-ghost use Rattle.varint.specs.Number.{tagOf, numberBytes, readNumber, writeNumber, convertNumber};
+ghost use Rattle.varint.specs.Number.{form, numberBytes, readNumber, writeNumber, convertNumber};
 ghost use Rattle.varint.specs.Answer.{convertOutcome, readOutcome, writeOutcome};
 use refusal::Refusal;
 
@@ -152,34 +152,36 @@ fn low(x: u64) -> u8
     (x % 256) as u8
 }
 
-// Stores the shortest form, for which there is room, and gives its length.
-fn put(x: u64, out: &mut [u8]) -> usize
-    requires { ⌜ (x < 2 ^ 62) × (length (numberBytes x) ≤ length (now out)) ⌝ }
-    ensures { λ r. ⌜ (r ≡ length (numberBytes x)) × (now (out .exit) ≡ front (numberBytes x) (now (out .entry))) ⌝ }
+// Each stores one form of `x`, for which there is room.
+fn put1(x: u64, out: &mut [u8])
+    requires { ⌜ (x < 64) × (0 < length (now out)) ⌝ }
+    ensures { λ r. ⌜ now (out .exit) ≡ front (form 0 x) (now (out .entry)) ⌝ }
 {
-    if x < 64 {
-        out[0] = low(x);
-        return 1;
-    }
-    put_longer(x, out)
+    out[0] = low(x);
 }
 
-fn put_longer(x: u64, out: &mut [u8]) -> usize
-    requires { ⌜ (64 ≤ x) × (x < 2 ^ 62) × (length (numberBytes x) ≤ length (now out)) ⌝ }
-    ensures { λ r. ⌜ (r ≡ length (numberBytes x)) × (now (out .exit) ≡ front (numberBytes x) (now (out .entry))) ⌝ }
+fn put2(x: u64, out: &mut [u8])
+    requires { ⌜ (x < 2 ^ 14) × (1 < length (now out)) ⌝ }
+    ensures { λ r. ⌜ now (out .exit) ≡ front (form 1 x) (now (out .entry)) ⌝ }
 {
-    if x < 16384 {
-        out[0] = low((1 << 6) | (x >> 8));
-        out[1] = low(x);
-        return 2;
-    }
-    if x < 1073741824 {
-        out[0] = low((2 << 6) | (x >> 24));
-        out[1] = low(x >> 16);
-        out[2] = low(x >> 8);
-        out[3] = low(x);
-        return 4;
-    }
+    out[0] = low((1 << 6) | (x >> 8));
+    out[1] = low(x);
+}
+
+fn put4(x: u64, out: &mut [u8])
+    requires { ⌜ (x < 2 ^ 30) × (3 < length (now out)) ⌝ }
+    ensures { λ r. ⌜ now (out .exit) ≡ front (form 2 x) (now (out .entry)) ⌝ }
+{
+    out[0] = low((2 << 6) | (x >> 24));
+    out[1] = low(x >> 16);
+    out[2] = low(x >> 8);
+    out[3] = low(x);
+}
+
+fn put8(x: u64, out: &mut [u8])
+    requires { ⌜ (x < 2 ^ 62) × (7 < length (now out)) ⌝ }
+    ensures { λ r. ⌜ now (out .exit) ≡ front (form 3 x) (now (out .entry)) ⌝ }
+{
     out[0] = low((3 << 6) | (x >> 56));
     out[1] = low(x >> 48);
     out[2] = low(x >> 40);
@@ -188,5 +190,25 @@ fn put_longer(x: u64, out: &mut [u8]) -> usize
     out[5] = low(x >> 16);
     out[6] = low(x >> 8);
     out[7] = low(x);
+}
+
+// Stores the shortest form, for which there is room, and gives its length.
+fn put(x: u64, out: &mut [u8]) -> usize
+    requires { ⌜ (x < 2 ^ 62) × (length (numberBytes x) ≤ length (now out)) ⌝ }
+    ensures { λ r. ⌜ (r ≡ length (numberBytes x)) × (now (out .exit) ≡ front (numberBytes x) (now (out .entry))) ⌝ }
+{
+    if x < 64 {
+        put1(x, out);
+        return 1;
+    }
+    if x < 16384 {
+        put2(x, out);
+        return 2;
+    }
+    if x < 1073741824 {
+        put4(x, out);
+        return 4;
+    }
+    put8(x, out);
     VarInt::MAX_SIZE
 }

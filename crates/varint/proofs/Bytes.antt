@@ -1,0 +1,154 @@
+-- Laws of big-endian bytes at every width, and of the tag. Assumes nothing.
+use Prim.Native.Nat.{ℕ, zero, suc, _+_, _-_, _*_, _/_, _%_, _^_, _≤_, _<_}
+use mathlib.Core.Path.{_≡_, refl, ap, sym, _∙_}
+use mathlib.Core.List.{List, [], _∷_, _++_}
+use mathlib.Core.Bool.{Bool, true, false}
+use native.Mathlib.Nat.{pow-succ', add-mul, mul-assoc, add-assoc, mod-eq-of-lt, one-le-pow, div-lt-iff-lt-mul}
+use native.Mathlib.Omega.{arith}
+use lib.ListN.{length, getD, take, drop}
+use lib.Seq.{sets, sets-eq, drop-cons}
+use lib.Arith.{mod-mul}
+use lib.Dec.{leb}
+use lib.Bits.{bitOr, or-shifted}
+use borrow.Author.Tests.{ltb-true, ltb-false, lt-ltb, le-ltb, le-leb, lt-leb}
+use Rattle.refusal.specs.Outcome.{Outcome, accepted, refused, pick, front}
+use Rattle.refusal.proofs.Laws.{pick-cases}
+use Rattle.varint.specs.Number.{valueFrom, bytesOf, tagOf, form, numberBytes, readNumber}
+
+pub pow-pos : (n : ℕ) → 0 < 256 ^ n
+pow-pos n = one-le-pow n 256 (omega arith)
+
+pub length-bytesOf : (n v : ℕ) → length (bytesOf n v) ≡ n
+length-bytesOf zero v = refl
+length-bytesOf (suc n) v = ap suc (length-bytesOf n v)
+
+-- the low n bytes of v, read after a
+pub value-bytesOf : (n a v : ℕ) → valueFrom a (bytesOf n v) ≡ a * 256 ^ n + v % 256 ^ n
+value-bytesOf zero a v = omega arith
+value-bytesOf (suc n) a v =
+    rw (value-bytesOf n, pow-succ', mod-mul v {m = 256} (omega arith) (pow-pos n), add-mul, mul-assoc, add-assoc)
+
+pub value-lt : (bs : List ℕ) (a c : ℕ) → ((i : ℕ) → getD bs i 0 < 256) → a < c → valueFrom a bs < c * 256 ^ length bs
+value-lt [] a c hs h = omega arith
+value-lt (b ∷ bs) a c hs h =
+    rw (pow-succ', ← mul-assoc) (value-lt bs (a * 256 + b) (c * 256) (λ i. hs (suc i)) (omega (arith, hs 0)))
+
+-- n bytes of s from i on, one after another
+abbrev pub gathered : ℕ → ℕ → ℕ → List ℕ → ℕ
+gathered zero i a s = a
+gathered (suc n) i a s = gathered n (suc i) (a * 256 + getD s i 0) s
+
+pub value-gathered : (n i a : ℕ) (s : List ℕ) → i + n ≤ length s → valueFrom a (take n (drop i s)) ≡ gathered n i a s
+value-gathered zero i a s h = refl
+value-gathered (suc n) i a s h =
+    rw (drop-cons s i 0 (omega arith)) (value-gathered n (suc i) (a * 256 + getD s i 0) s (omega arith))
+
+-- two numbers side by side in 64 bits, the lower one in k of them
+pub joined : (k a b : ℕ) → a * 2 ^ k < 2 ^ 64 → b < 2 ^ k → bitOr (a * 2 ^ k % 2 ^ 64) b ≡ a * 2 ^ k + b
+joined k a b h hb = rw (mod-eq-of-lt h) (or-shifted a k b hb)
+
+-- a byte with the tag k
+pub tagged : (k x : ℕ) → k ≤ 3 → x < 64 → bitOr (k * 64) x % 256 ≡ k * 64 + x
+tagged k x hk hx = rw (or-shifted k 6 x hx) (mod-eq-of-lt (omega arith))
+
+-- bytes stored one after another from the front on
+pub stored : (vs out : List ℕ) → length vs ≤ length out → sets out 0 vs ≡ front vs out
+unfolding front
+stored vs out h = let e : 0 + length vs ≡ length vs = omega arith in rw e at (sets-eq vs out 0 (omega arith))
+
+pub tag-cases : (v : ℕ) (P : ℕ → Type 0) → (v < 2 ^ 6 → P 0) → (2 ^ 6 ≤ v → v < 2 ^ 14 → P 1) → (2 ^ 14 ≤ v → v < 2 ^ 30 → P 2)
+    → (2 ^ 30 ≤ v → P 3) → P (tagOf v)
+unfolding tagOf
+tag-cases v P p0 p1 p2 p3 =
+    pick-cases P _ _ _ (λ h. p0 (ltb-true _ _ h)) λ h0.
+    pick-cases P _ _ _ (λ h. p1 (ltb-false _ _ h0) (ltb-true _ _ h)) λ h1.
+    pick-cases P _ _ _ (λ h. p2 (ltb-false _ _ h1) (ltb-true _ _ h)) λ h2. p3 (ltb-false _ _ h2)
+
+pub tag-le : (v : ℕ) → tagOf v ≤ 3
+tag-le v = tag-cases v (λ k. k ≤ 3) (λ _. omega arith) (λ _ _. omega arith) (λ _ _. omega arith) (λ _. omega arith)
+
+pub tag-room : (v : ℕ) → v < 2 ^ 62 → v < 64 * 256 ^ (2 ^ tagOf v - 1)
+tag-room v h =
+    tag-cases v (λ k. v < 64 * 256 ^ (2 ^ k - 1))
+    (λ a. omega arith) (λ a b. omega arith) (λ a b. omega arith) (λ a. omega arith)
+
+-- a tag is one of four
+pub four : (k : ℕ) (P : ℕ → Type 0) → k ≤ 3 → P 0 → P 1 → P 2 → P 3 → P k
+four zero P h p0 p1 p2 p3 = p0
+four (suc zero) P h p0 p1 p2 p3 = p1
+four (suc (suc zero)) P h p0 p1 p2 p3 = p2
+four (suc (suc (suc zero))) P h p0 p1 p2 p3 = p3
+four (suc (suc (suc (suc k)))) P h p0 p1 p2 p3 = absurd (omega arith)
+
+pub width-range : (k : ℕ) → k ≤ 3 → (1 ≤ 2 ^ k) × (2 ^ k ≤ 8)
+width-range k h = four k (λ k. (1 ≤ 2 ^ k) × (2 ^ k ≤ 8)) h (omega arith) (omega arith) (omega arith) (omega arith)
+
+pub tag-least : (v k : ℕ) → k ≤ 3 → v < 64 * 256 ^ (2 ^ k - 1) → tagOf v ≤ k
+tag-least v k hk h =
+    tag-cases v (λ t. t ≤ k)
+    (λ a. omega arith) (λ a b. four k (λ k. v < 64 * 256 ^ (2 ^ k - 1) → 1 ≤ k) hk (omega arith) (omega arith) (omega arith) (omega arith) h)
+    (λ a b. four k (λ k. v < 64 * 256 ^ (2 ^ k - 1) → 2 ≤ k) hk (omega arith) (omega arith) (omega arith) (omega arith) h)
+    (λ a. four k (λ k. v < 64 * 256 ^ (2 ^ k - 1) → 3 ≤ k) hk (omega arith) (omega arith) (omega arith) (omega arith) h)
+
+pub length-form : (k v : ℕ) → k ≤ 3 → length (form k v) ≡ 2 ^ k
+unfolding form
+length-form k v h = let r = width-range k h in rw length-bytesOf (omega arith)
+
+pub high-lt : (n v : ℕ) → v < 64 * 256 ^ n → v / 256 ^ n < 64
+high-lt n v h = div-lt-iff-lt-mul (pow-pos n) .1 h
+
+pub read-none : (s : List ℕ) → length s ≡ 0 → refused 3 ≡ readNumber s
+unfolding readNumber
+read-none [] h = refl
+read-none (b ∷ s) h = absurd (omega arith)
+
+-- what stands in bytes whose first has the tag k
+module _ (s : List ℕ) (k : ℕ) (h : 0 < length s) (e : k ≡ getD s 0 0 / 64) where
+  read-some : readNumber s ≡ pick (leb (2 ^ k) (length s)) (accepted (valueFrom (getD s 0 0 % 64) (take (2 ^ k - 1) (drop 1 s)), 2 ^ k)) (refused 3)
+  unfolding readNumber
+  read-some = rw e (go s h)
+    where
+      go : (s : List ℕ) → 0 < length s → readNumber s ≡ pick (leb (2 ^ (getD s 0 0 / 64)) (length s))
+          (accepted (valueFrom (getD s 0 0 % 64) (take (2 ^ (getD s 0 0 / 64) - 1) (drop 1 s)), 2 ^ (getD s 0 0 / 64))) (refused 3)
+      go [] h = absurd (omega arith)
+      go (b ∷ s) h = refl
+
+  pub read-short : length s < 2 ^ k → refused 3 ≡ readNumber s
+  read-short l = sym (rw (lt-leb (2 ^ k) (length s) l) at read-some)
+
+  pub read-whole : 2 ^ k ≤ length s → (n : ℕ) → 2 ^ k ≡ suc n → readNumber s ≡ accepted (gathered n 1 (getD s 0 0 % 64) s, suc n)
+  read-whole l n q =
+      let m : 2 ^ k - 1 ≡ n = omega arith in
+      rw (le-leb (2 ^ k) (length s) l, m, q) at read-some
+      ∙ ap (λ v. accepted (v, suc n)) (value-gathered n 1 (getD s 0 0 % 64) s (omega arith))
+
+-- the tests of the code pick the tag
+pub tag-0 : (v : ℕ) → v < 2 ^ 6 → tagOf v ≡ 0
+unfolding tagOf
+tag-0 v h = simp (lt-ltb _ _ h)
+
+pub tag-1 : (v : ℕ) → 2 ^ 6 ≤ v → v < 2 ^ 14 → tagOf v ≡ 1
+unfolding tagOf
+tag-1 v l h = simp (le-ltb _ _ l, lt-ltb _ _ h)
+
+pub tag-2 : (v : ℕ) → 2 ^ 14 ≤ v → v < 2 ^ 30 → tagOf v ≡ 2
+unfolding tagOf
+tag-2 v l h = let m : 2 ^ 6 ≤ v = omega arith in simp (le-ltb _ _ m, le-ltb _ _ l, lt-ltb _ _ h)
+
+pub tag-3 : (v : ℕ) → 2 ^ 30 ≤ v → tagOf v ≡ 3
+unfolding tagOf
+tag-3 v l =
+    let m : 2 ^ 6 ≤ v = omega arith in
+    let n : 2 ^ 14 ≤ v = omega arith in
+    simp (le-ltb _ _ m, le-ltb _ _ n, le-ltb _ _ l)
+
+-- the shortest form has a known tag
+module _ (v k : ℕ) (e : tagOf v ≡ k) where
+  pub size-at : length (numberBytes v) ≡ 2 ^ k
+  size-at = rw e (length-form k v (rw e at (tag-le v)))
+
+  pub sized : (out : List ℕ) → length (numberBytes v) ≤ length out → 2 ^ k ≤ length out
+  sized out h = rw size-at at h
+
+  pub whole : (out out′ : List ℕ) → out′ ≡ front (form k v) out → (2 ^ k ≡ length (numberBytes v)) × (out′ ≡ front (numberBytes v) out)
+  whole out out′ h = (sym size-at, h ∙ rw e)

@@ -1,0 +1,31 @@
+-- `varint::put1` meets its contract: its stores are the form of tag 0. Assumes nothing.
+use native.Mathlib.Nat.{mod-eq-of-lt, div-one}
+use lib.ListN.{length-set}
+use Rattle.varint.specs.Number.{form}
+use Rattle.varint.proofs.Bytes.{stored, tagged}
+use mathlib.Core.List.{[], _∷_}
+use Prim.Native.Nat.{ℕ, _+_, _*_, _/_, _%_, _^_, _<_, _≤_}
+use mathlib.Core.Path.{_≡_, refl, ap, sym, _∙_}
+use native.Mathlib.Omega.{arith}
+use borrow.Author.Needs.{needs}
+use Rattle.varint.proofs.put1.Statement.{statement}
+use Rattle.varint.proofs.put1.Tie as tie
+
+low-requires : tie.Need-low-requires
+low-requires c κs = search needs
+
+slice-write-out : tie.Need-slice-write-out
+slice-write-out c = search needs
+
+same-length : tie.Need-same-length
+same-length c = search needs
+
+returns : tie.Need-returns
+unfolding form
+returns c =
+    let h : c .before .before .args .x < 256 = omega arith in
+    let e : 0 * 64 + c .before .before .args .x / 1 ≡ c .before .before .args .x = omega arith in
+    rw (c .low .ensures, mod-eq-of-lt h, e) (stored (c .before .before .args .x ∷ []) (c .before .before .args .out .now) (omega arith))
+
+pub put1-spec : {M : Type 1} → statement M
+put1-spec = tie.close (tie.spec low-requires slice-write-out same-length returns)

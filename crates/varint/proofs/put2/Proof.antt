@@ -1,0 +1,40 @@
+-- `varint::put2` meets its contract: its stores are the form of tag 1. Assumes nothing.
+use native.Mathlib.Nat.{mod-eq-of-lt, div-one}
+use lib.ListN.{length-set}
+use Rattle.varint.specs.Number.{form}
+use Rattle.varint.proofs.Bytes.{stored, tagged}
+use mathlib.Core.List.{[], _∷_}
+use Prim.Native.Nat.{ℕ, _+_, _*_, _/_, _%_, _^_, _<_, _≤_}
+use mathlib.Core.Path.{_≡_, refl, ap, sym, _∙_}
+use native.Mathlib.Omega.{arith}
+use borrow.Author.Needs.{needs}
+use Rattle.varint.proofs.put2.Statement.{statement}
+use Rattle.varint.proofs.put2.Tie as tie
+
+low-requires : tie.Need-low-requires
+low-requires c κs = search needs
+
+slice-write-out : tie.Need-slice-write-out
+slice-write-out c = search needs
+
+low-requires-2 : tie.Need-low-requires-2
+low-requires-2 c κs = search needs
+
+slice-write-out-2 : tie.Need-slice-write-out-2
+slice-write-out-2 c = simp length-set (omega arith)
+
+same-length : tie.Need-same-length
+same-length c = search needs
+
+returns : tie.Need-returns
+unfolding form
+returns c =
+    let x = c .before .before .before .args .x in
+    let h : x / 2 ^ 8 < 64 = omega arith in
+    rw (c .before .low .ensures, c .low2 .ensures, tagged 1 (x / 2 ^ 8) (omega arith) h, div-one x)
+    (rw div-one at (stored (form 1 x) (c .before .before .before .args .out .now) (omega arith)))
+
+pub put2-spec : {M : Type 1} → statement M
+put2-spec =
+    tie.close
+    (tie.spec low-requires slice-write-out low-requires-2 slice-write-out-2 same-length returns)
