@@ -9,14 +9,14 @@ use mathlib.Core.List.{List, [], _∷_}
 use mathlib.Core.Bool.{Bool, true, false}
 use native.Mathlib.Omega.{arith}
 use lib.ListN.{getD}
-use Rattle.refusal.specs.Outcome.{Outcome, accepted, refused, pick, andThen, all}
+use Rattle.refusal.specs.Outcome.{Result, accepted, refused, pick, andThen, all}
 
-pub inverted : {A B P : Type 0} (o : Outcome A) (f : A → Outcome B) (b : B) → andThen o f ≡ accepted b
+pub inverted : {E A B P : Type 0} (o : Result E A) (f : A → Result E B) (b : B) → andThen o f ≡ accepted b
     → ((a : A) → o ≡ accepted a → f a ≡ accepted b → P) → P
 inverted (accepted a) f b e k = k a refl e
 inverted (refused n) f b e k = let z : _≡_ {A = ℕ} 0 1 = cc in absurd (omega arith)
 
-pub picked : {A P : Type 0} (t : Bool) (a b : A) (n : ℕ) → pick {A = Outcome A} t (accepted a) (refused n) ≡ accepted b
+pub picked : {E A P : Type 0} (t : Bool) (a b : A) (n : E) → pick {A = Result E A} t (accepted a) (refused n) ≡ accepted b
     → (t ≡ true → a ≡ b → P) → P
 picked true a b n e k = k refl (cc)
 picked false a b n e k = let z : _≡_ {A = ℕ} 0 1 = cc in absurd (omega arith)

@@ -5,9 +5,12 @@ use mathlib.Core.List.{List, [], _∷_, _++_}
 use lib.ListN.{length, drop}
 use lib.Dec.{leb}
 
-pub data Outcome (A : Type 0) : Type 0 where
-  accepted : A → Outcome A
-  refused : ℕ → Outcome A
+pub data Result (E A : Type 0) : Type 0 where
+  accepted : A → Result E A
+  refused : E → Result E A
+
+abbrev pub Outcome : Type 0 → Type 0
+Outcome A = Result ℕ A
 
 -- if the test holds, the first, else the second
 abbrev pub pick : {A : Type 0} → Bool → A → A → A
@@ -15,7 +18,7 @@ pick true a b = a
 pick false a b = b
 
 -- one operation after another: the first refusal is the refusal of both
-abbrev pub andThen : {A B : Type 0} → Outcome A → (A → Outcome B) → Outcome B
+abbrev pub andThen : {E A B : Type 0} → Result E A → (A → Result E B) → Result E B
 andThen (accepted a) f = f a
 andThen (refused e) f = refused e
 

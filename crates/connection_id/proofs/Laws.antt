@@ -1,0 +1,143 @@
+-- Laws of connection IDs. Assumes nothing.
+--     zeros-are         zeros are a list of zeros
+--     zeros-replicate   a list of zeros is zeros
+--     zeros-append      zeros, part by part
+--     zeros-drop        zeros from a place on: the byte there, and the rest
+--     or-none           bits joined are none exactly if both are none
+--     cid-facts         what it takes to be well formed
+--     cid-length        a well-formed ID has as many bytes as it says
+--     cid-of            a well-formed ID is that of its bytes
+--     cid-none          the one of length 0 is the empty ID
+--     cid-read          the ID of at most 20 bytes is well formed
+--     cid-same          the bytes of the ID of some bytes are these
+--     cid-back          a written ID reads back, with any bytes behind it
+--     cid-sound         an accepted ID is well formed, its count within the input, and its form no shorter
+use Prim.Native.Nat.{ℕ, zero, suc, _+_, _-_, _≤_, _<_}
+use mathlib.Core.Path.{_≡_, refl, ap, ap₂, sym, _∙_}
+use mathlib.Core.List.{List, [], _∷_, _++_}
+use mathlib.Core.Bool.{Bool, true, false, _&&_}
+use native.Mathlib.Omega.{arith}
+use native.Mathlib.Numerals.{add-one}
+use lib.ListN.{length, getD, take, drop, replicate, length-append, length-replicate, length-drop, take-append-drop, drop-of-length-le}
+use lib.Seq.{length-take-le, take-append-seam, drop-append-seam, drop-cons, take-at}
+use lib.Bits.{bitOr, bitAnd, or-add-and, and-le-l, and-le-r}
+use lib.Dec.{leb, eqb}
+use borrow.Author.Tests.{le-leb, leb-true, eq-eqb, ne-eqb, eqb-true, eqb-false}
+use Rattle.refusal.specs.Outcome.{accepted, all}
+use Rattle.refusal.proofs.Laws.{picked, all-at}
+use Rattle.connection_id.specs.declared.ConnectionId.{ConnectionId}
+use Rattle.connection_id.specs.ConnectionId.{zeros, cidOf, cidBytes, formedCid, readCid, cidWire}
+
+pub zeros-are : (l : List ℕ) → zeros l ≡ true → l ≡ replicate (length l) 0
+zeros-are [] h = refl
+zeros-are (b ∷ l) h = go (eqb b 0) refl h (zeros-are l)
+  where
+    go : (t : Bool) → eqb b 0 ≡ t → (t && zeros l) ≡ true → (zeros l ≡ true → l ≡ replicate (length l) 0) → b ∷ l ≡ 0 ∷ replicate (length l) 0
+    go true e h ih = ap₂ _∷_ (eqb-true b 0 e) (ih h)
+    go false e h ih = let z : _≡_ {A = ℕ} 0 1 = cc in absurd (omega arith)
+
+pub zeros-replicate : (n : ℕ) → zeros (replicate n 0) ≡ true
+zeros-replicate zero = refl
+zeros-replicate (suc n) = zeros-replicate n
+
+and-assoc : (s t u : Bool) → (s && (t && u)) ≡ ((s && t) && u)
+and-assoc true t u = refl
+and-assoc false t u = refl
+
+pub zeros-append : (a b : List ℕ) → zeros (a ++ b) ≡ (zeros a && zeros b)
+zeros-append [] b = refl
+zeros-append (x ∷ a) b = ap (λ t. eqb x 0 && t) (zeros-append a b) ∙ and-assoc (eqb x 0) (zeros a) (zeros b)
+
+pub or-none : (a b : ℕ) → eqb (bitOr a b) 0 ≡ (eqb a 0 && eqb b 0)
+or-none a b = go (eqb a 0) refl (eqb b 0) refl
+  where
+    sum : bitOr a b + bitAnd a b ≡ a + b
+    sum = or-add-and a b
+
+    go : (s : Bool) → eqb a 0 ≡ s → (t : Bool) → eqb b 0 ≡ t → eqb (bitOr a b) 0 ≡ (s && t)
+    go true e true f = eq-eqb (bitOr a b) 0 (omega (arith, sum, eqb-true a 0 e, eqb-true b 0 f))
+    go true e false f = ne-eqb (bitOr a b) 0 (λ n. eqb-false b 0 f (omega (arith, sum, n, and-le-l a b)))
+    go false e t f = ne-eqb (bitOr a b) 0 (λ n. eqb-false a 0 e (omega (arith, sum, n, and-le-r a b)))
+
+-- the zeros from place i on, with the bits met before them
+pub zeros-drop : (acc : ℕ) (l : List ℕ) (i : ℕ) → i < length l → (eqb acc 0 && zeros (drop i l)) ≡ (eqb (bitOr acc (getD l i 0)) 0 && zeros (drop (i + 1) l))
+zeros-drop acc l i h =
+    ap (λ (m : List ℕ). eqb acc 0 && zeros m) (drop-cons l i 0 h)
+    ∙ and-assoc (eqb acc 0) (eqb (getD l i 0) 0) (zeros (drop (suc i) l))
+    ∙ ap₂ _&&_ (sym (or-none acc (getD l i 0))) (ap (λ (n : ℕ). zeros (drop n l)) (sym (add-one i)))
+
+pub and-true : (t : Bool) → (t && true) ≡ t
+and-true true = refl
+and-true false = refl
+
+pub zeros-end : (acc : ℕ) (l : List ℕ) (i : ℕ) → length l ≤ i → (eqb acc 0 && zeros (drop i l)) ≡ eqb acc 0
+zeros-end acc l i h = ap (λ (m : List ℕ). eqb acc 0 && zeros m) (drop-of-length-le l h) ∙ and-true (eqb acc 0)
+
+pub record Cid (c : ConnectionId) : Type 0 where
+  pub long : length (c .bytes) ≡ 20
+  pub within : c .len ≤ 20
+  pub after : zeros (drop (c .len) (c .bytes)) ≡ true
+
+pub cid-facts : (c : ConnectionId) → formedCid c ≡ true → Cid c
+unfolding formedCid
+cid-facts c h = let a = all-at _ h in record { long = eqb-true _ _ (a 0); within = leb-true _ _ (a 1); after = a 2 }
+
+pub cid-length : (c : ConnectionId) → Cid c → length (cidBytes c) ≡ c .len
+cid-length c k = length-take-le (c .len) (c .bytes) (omega (arith, k .long, k .within))
+
+pub cid-of : (c : ConnectionId) → formedCid c ≡ true → cidOf (cidBytes c) ≡ c
+unfolding cidOf
+cid-of c h = go (c .len) (c .bytes) (cid-facts c h)
+  where
+    go : (n : ℕ) (bs : List ℕ) → Cid (record { len = n; bytes = bs }) → cidOf (take n bs) ≡ record { len = n; bytes = bs }
+    go n bs k =
+        let e = cid-length (record { len = n; bytes = bs }) k in
+        let d : drop n bs ≡ replicate (20 - n) 0 = zeros-are (drop n bs) (k .after) ∙ ap (λ m. replicate m 0) (length-drop n bs ∙ ap (λ m. m - n) (k .long)) in
+        rw (e, ← d, take-append-drop)
+
+pub cid-none : (c : ConnectionId) → formedCid c ≡ true → c .len ≡ 0 → cidOf [] ≡ c
+cid-none c h e = ap (λ m. cidOf (take m (c .bytes))) (sym e) ∙ cid-of c h
+
+pub cid-read : (v : List ℕ) → length v ≤ 20 → formedCid (cidOf v) ≡ true
+unfolding formedCid cidOf all
+cid-read v h =
+    let n : length (v ++ replicate (20 - length v) 0) ≡ 20 = simp (length-append, length-replicate) (omega arith) in
+    rw (eq-eqb _ _ n, le-leb _ _ h, drop-append-seam v, zeros-replicate)
+
+pub cid-same : (v : List ℕ) → cidBytes (cidOf v) ≡ v
+unfolding cidOf
+cid-same v = take-append-seam v _
+
+pub cid-back : (c : ConnectionId) (rest : List ℕ) → formedCid c ≡ true → readCid (cidWire c ++ rest) ≡ accepted (c, c .len + 1)
+unfolding readCid
+cid-back c rest h =
+    let k = cid-facts c h in
+    let e = cid-length c k in
+    let l : c .len ≤ length (cidBytes c ++ rest) = simp length-append (omega arith) in
+    rw (le-leb _ _ (k .within), le-leb _ _ l, take-at (cidBytes c) rest (c .len) e, cid-of c h)
+
+-- what an accepted ID shows
+pub record Sound (bs : List ℕ) (c : ConnectionId) (n : ℕ) : Type 0 where
+  pub formed : formedCid c ≡ true
+  pub fit : n ≤ length bs
+  pub count : n ≡ c .len + 1
+  pub shortest : n ≡ length (cidWire c)
+
+both : (s t : Bool) → (s && t) ≡ true → (s ≡ true) × (t ≡ true)
+both true t h = (refl, h)
+both false t h = let z : _≡_ {A = ℕ} 0 1 = cc in absurd (omega arith)
+
+pub cid-sound : (bs : List ℕ) (c : ConnectionId) (n : ℕ) → readCid bs ≡ accepted (c, n) → Sound bs c n
+unfolding readCid cidOf
+cid-sound [] c n e = let z : _≡_ {A = ℕ} 0 1 = cc in absurd (omega arith)
+cid-sound (m ∷ bs) c n e = picked _ _ _ _ e (λ t a. go (both _ _ t) a)
+  where
+    go : (leb m 20 ≡ true) × (leb m (length bs) ≡ true) → _≡_ {A = ConnectionId × ℕ} (cidOf (take m bs), m + 1) (c, n) → Sound (m ∷ bs) c n
+    go t a =
+        let h = length-take-le m bs (leb-true _ _ (t .1)) in
+        let s : cidOf (take m bs) ≡ c = ap (λ (p : ConnectionId × ℕ). p .0) a in
+        let q : m + 1 ≡ n = ap (λ (p : ConnectionId × ℕ). p .1) a in
+        let f : formedCid c ≡ true = ap formedCid (sym s) ∙ cid-read (take m bs) (omega (arith, leb-true m 20 (t .0))) in
+        let l : length (take m bs) ≡ c .len = ap (λ (d : ConnectionId). d .len) s in
+        let w = cid-length c (cid-facts c f) in
+        record { formed = f; fit = omega (arith, leb-true m (length bs) (t .1)); count = omega arith; shortest = omega arith }

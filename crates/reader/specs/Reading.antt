@@ -1,0 +1,75 @@
+-- Reading an extension (RFC 9000 sections 7.4 and 18), as a definition: the values received at each place, one parameter after
+-- another; then the value rules; then the record.
+use Prim.Native.Nat.{ℕ, zero, suc}
+use mathlib.Core.List.{List, [], _∷_}
+use mathlib.Core.Option.{Option, some}
+use mathlib.Core.Bool.{Bool, _&&_, _||_, not}
+use lib.ListN.{length, take, drop}
+use lib.Dec.{ltb, leb, eqb}
+use Rattle.refusal.specs.Outcome.{Result, accepted, refused, Outcome, pick, andThen}
+use Rattle.varint.specs.Number.{readNumber}
+use Rattle.parameters.specs.declared.TransportParameters.{TransportParameters}
+use Rattle.parameters.specs.declared.Side.{Side}
+use Rattle.parameters.specs.Catalogue.{places, kindAt, placeOf, fits, illegal}
+use Rattle.parameters.specs.Values.{Values, noValues, isSome, upd, recordOf}
+use Rattle.parameters.specs.Record.{valueRules}
+use Rattle.reader.specs.declared.Fault.{Fault}
+use Rattle.reader.specs.declared.Fault.the-variants.{Cut, SecondCopy, Misfit, Illegal}
+
+-- the number that a fault is refused with: 1 is Malformed, 2 IllegalValue
+unfoldable pub faultNumber : Fault → ℕ
+faultNumber Cut = 1
+faultNumber SecondCopy = 1
+faultNumber Misfit = 1
+faultNumber Illegal = 2
+
+abbrev pub numbered : {A : Type 0} → Result Fault A → Outcome A
+numbered (accepted a) = accepted a
+numbered (refused f) = refused (faultNumber f)
+
+-- grease_quic_bit may repeat, and the last min_ack_delay counts
+unfoldable pub mayRepeat : ℕ → Bool
+mayRepeat p = eqb p 19 || eqb p 20
+
+-- a number that cannot be read cuts the parameter off
+abbrev pub orCut : {A : Type 0} → Outcome A → Result Fault A
+orCut (accepted a) = accepted a
+orCut (refused e) = refused Cut
+
+-- the parameter at the front: its identifier, its value and what is behind it
+unfoldable pub readParameter : List ℕ → Result Fault (ℕ × List ℕ × List ℕ)
+readParameter bs =
+    andThen (orCut (readNumber bs)) λ i.
+    andThen (orCut (readNumber (drop (i .1) bs))) λ l.
+    pick (leb (l .0) (length (drop (l .1) (drop (i .1) bs))))
+    (accepted (i .0, take (l .0) (drop (l .1) (drop (i .1) bs)), drop (l .0) (drop (l .1) (drop (i .1) bs))))
+    (refused Cut)
+
+-- a value for a known place: a second copy, then a value that is illegal, then one that does not fit
+unfoldable pub receive : Values → ℕ → List ℕ → Result Fault Values
+receive l p v =
+    pick (isSome (l p) && not (mayRepeat p))
+    (refused SecondCopy)
+    (pick (illegal (kindAt p) v) (refused Illegal) (pick (fits (kindAt p) v) (accepted (upd l p (some v))) (refused Misfit)))
+
+-- an unknown parameter is skipped
+unfoldable pub step : Values → ℕ → List ℕ → Result Fault Values
+step l id v = pick (ltb (placeOf id) places) (receive l (placeOf id) v) (accepted l)
+
+-- parameters up to the end of the bytes, of which there are at most f
+abbrev pub parseIn : ℕ → Values → List ℕ → Result Fault Values
+parseIn zero l [] = accepted l
+parseIn zero l (b ∷ bs) = refused Cut
+parseIn (suc f) l [] = accepted l
+parseIn (suc f) l (b ∷ bs) = andThen (readParameter (b ∷ bs)) λ i. andThen (step l (i .0) (i .1)) λ m. parseIn f m (i .2)
+
+-- each parameter has a byte at least
+unfoldable pub parse : Values → List ℕ → Result Fault Values
+parse l bs = parseIn (length bs) l bs
+
+-- the record of the values, if the value rules hold
+unfoldable pub judge : Side → Values → Result Fault TransportParameters
+judge s l = pick (valueRules s (recordOf l)) (accepted (recordOf l)) (refused Illegal)
+
+unfoldable pub read : Side → List ℕ → Outcome TransportParameters
+read s bs = numbered (andThen (parse noValues bs) (judge s))

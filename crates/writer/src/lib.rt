@@ -1,0 +1,1 @@
+// Writing an extension: `TransportParameters::write` of quinn's transport_parameters.rs.
