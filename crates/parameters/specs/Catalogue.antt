@@ -5,9 +5,9 @@ use mathlib.Core.List.{List, [], _∷_, _++_}
 use mathlib.Core.Option.{Option, none, some}
 use mathlib.Core.Bool.{Bool, true, false}
 use lib.ListN.{length, getD, take, replicate}
-use lib.Dec.{leb, eqb}
+use lib.Dec.{ltb, leb, eqb}
 use Rattle.refusal.specs.Outcome.{Outcome, accepted, refused, pick, all}
-use Rattle.varint.specs.Number.{readNumber, numberBytes}
+use Rattle.varint.specs.Number.{bound, readNumber, numberBytes}
 use Rattle.connection_id.specs.ConnectionId.{zeros}
 
 abbrev pub places : ℕ
@@ -45,9 +45,9 @@ abbrev pub indexOf : ℕ → List ℕ → ℕ
 indexOf x [] = 0
 indexOf x (y ∷ ys) = pick (eqb x y) 0 (suc (indexOf x ys))
 
--- the place of an identifier, 21 if it is unknown
+-- the place of an identifier, which is a number below 2 ^ 62; 21 if it is unknown
 unfoldable pub placeOf : ℕ → ℕ
-placeOf id = indexOf id ids
+placeOf id = pick (ltb id bound) (indexOf id ids) places
 
 -- a number that is as long as its bytes
 abbrev pub fills : ℕ → Outcome (ℕ × ℕ) → Bool

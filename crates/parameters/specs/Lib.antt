@@ -1,3 +1,4 @@
 pub mod Catalogue
 pub mod Values
 pub mod Record
+pub mod Answer

@@ -97,9 +97,6 @@ wellFormed r =
     )
 
 -- LEGAL FOR A SIDE
-abbrev pub at : TransportParameters → ℕ → ℕ
-at r p = getD (r .numbers) p 0
-
 -- a time that is absent is below every other
 abbrev pub least : OptionalNumber → ℕ
 least Absent = 0
@@ -109,23 +106,34 @@ abbrev pub isServer : Side → Bool
 isServer Client = false
 isServer Server = true
 
--- the value rules (RFC 9000 sections 4.6 and 18.2, draft-ietf-quic-ack-frequency-08 section 3): what a server may not be sent last
+-- the value rules (RFC 9000 sections 4.6 and 18.2, draft-ietf-quic-ack-frequency-08 section 3): of the numbers, with the minimum delay
+unfoldable pub numberRules : List ℕ → ℕ → Bool
+numberRules ns delay =
+    all (
+    -- ack_delay_exponent, max_ack_delay, active_connection_id_limit, max_udp_payload_size
+    leb (getD ns 8 0) 20
+    ∷ ltb (getD ns 9 0) 16384
+    ∷ leb 2 (getD ns 10 0)
+    ∷ leb 1200 (getD ns 1 0)
+    -- initial_max_streams_bidi and _uni
+    ∷ leb (getD ns 6 0) (2 ^ 60)
+    ∷ leb (getD ns 7 0) (2 ^ 60)
+    -- min_ack_delay, in microseconds, and max_ack_delay, in milliseconds
+    ∷ leb delay (1000 * getD ns 9 0)
+    ∷ []
+    )
+
+-- of what else is present: no server is sent original_dst_cid, preferred_address, retry_src_cid or the token; an address has an ID
+unfoldable pub presenceRules : Bool → Bool → Bool → Bool → Bool → ℕ → Bool
+presenceRules server original address retry token idLen =
+    all (not (server && (original || (address || (retry || token)))) ∷ not (address && eqb idLen 0) ∷ [])
+
 unfoldable pub valueRules : Side → TransportParameters → Bool
 valueRules s r =
     all (
-    leb (at r 8) 20
-    ∷ ltb (at r 9) 16384
-    ∷ leb 2 (at r 10)
-    ∷ leb 1200 (at r 1)
-    ∷ leb (at r 6) (2 ^ 60)
-    ∷ leb (at r 7) (2 ^ 60)
-    -- microseconds against milliseconds
-    ∷ leb (least (r .«min_ack_delay»)) (1000 * at r 9)
-    ∷ not (r .«preferred_address» .present && eqb (r .«preferred_address» .«connection_id» .len) 0)
-    ∷ not (isServer s && r .«original_dst_cid» .present)
-    ∷ not (isServer s && r .«preferred_address» .present)
-    ∷ not (isServer s && r .«retry_src_cid» .present)
-    ∷ not (isServer s && r .«stateless_reset_token» .present)
+    numberRules (r .numbers) (least (r .«min_ack_delay»))
+    ∷ presenceRules (isServer s) (r .«original_dst_cid» .present) (r .«preferred_address» .present) (r .«retry_src_cid» .present)
+    (r .«stateless_reset_token» .present) (r .«preferred_address» .«connection_id» .len)
     ∷ []
     )
 

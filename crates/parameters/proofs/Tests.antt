@@ -1,0 +1,122 @@
+-- Laws of the tests that the code makes. Assumes nothing.
+use Prim.Native.Nat.{ℕ, suc, _+_, _*_, _^_, _≤_, _<_}
+use mathlib.Core.Path.{_≡_, refl, ap, ap₂, sym, _∙_}
+use mathlib.Core.List.{List, [], _∷_}
+use mathlib.Core.Bool.{Bool, true, false, _&&_, _||_, not}
+use native.Mathlib.Omega.{arith}
+use native.Mathlib.Numerals.{add-one}
+use lib.ListN.{length, getD, drop, drop-of-length-le}
+use lib.Seq.{drop-cons}
+use lib.Dec.{leb, ltb, eqb}
+use lib.Bits.{bitOr, or-lt, or-add-and, and-le-l, and-le-r}
+use borrow.Author.Tests.{lt-ltb, le-ltb, le-leb, lt-leb, ltb-true, ltb-false, ne-eqb}
+use Rattle.varint.specs.Number.{bound}
+use Rattle.connection_id.proofs.Laws.{and-true}
+use Rattle.refusal.specs.Outcome.{pick, all}
+use Rattle.connection_id.specs.ConnectionId.{zeros, formedCid}
+use Rattle.parameters.specs.declared.PreferredAddress.{PreferredAddress}
+use Rattle.parameters.specs.Values.{ofV4, ofV6}
+use Rattle.parameters.specs.Catalogue.{placeOf, ids, indexOf}
+use Rattle.parameters.specs.Record.{every, unspecified, formedFamily, formedToken, formedAddress}
+
+pub and-assoc : (s t u : Bool) → (s && (t && u)) ≡ ((s && t) && u)
+and-assoc true t u = refl
+and-assoc false t u = refl
+
+-- numbers joined bit by bit are below 2 ^ 62 exactly if both are
+pub or-below : (a b : ℕ) → ltb (bitOr a b) bound ≡ (ltb a bound && ltb b bound)
+or-below a b = go (ltb a bound) refl (ltb b bound) refl
+  where
+    go : (s : Bool) → ltb a bound ≡ s → (t : Bool) → ltb b bound ≡ t → ltb (bitOr a b) bound ≡ (s && t)
+    go true e true f = lt-ltb _ _ (or-lt 62 a b (ltb-true _ _ e) (ltb-true _ _ f))
+    go true e false f = le-ltb (bitOr a b) bound (omega (arith, or-add-and a b, and-le-l a b, ltb-false b bound f))
+    go false e t f = le-ltb (bitOr a b) bound (omega (arith, or-add-and a b, and-le-r a b, ltb-false a bound e))
+
+-- the numbers from place i on, with the bits met before them
+pub every-drop : (acc : ℕ) (l : List ℕ) (i : ℕ) → i < length l
+    → (ltb acc bound && every (λ x. ltb x bound) (drop i l)) ≡ (ltb (bitOr acc (getD l i 0)) bound && every (λ x. ltb x bound) (drop (i + 1) l))
+every-drop acc l i h =
+    ap (λ (m : List ℕ). ltb acc bound && every (λ x. ltb x bound) m) (drop-cons l i 0 h)
+    ∙ and-assoc (ltb acc bound) (ltb (getD l i 0) bound) (every (λ x. ltb x bound) (drop (suc i) l))
+    ∙ ap₂ _&&_ (sym (or-below acc (getD l i 0))) (ap (λ (n : ℕ). every (λ x. ltb x bound) (drop n l)) (sym (add-one i)))
+
+pub every-end : (acc : ℕ) (l : List ℕ) (i : ℕ) → length l ≤ i → (ltb acc bound && every (λ x. ltb x bound) (drop i l)) ≡ ltb acc bound
+every-end acc l i h = ap (λ (m : List ℕ). ltb acc bound && every (λ x. ltb x bound) m) (drop-of-length-le l h) ∙ and-true (ltb acc bound)
+
+-- at most 2 ^ 62 - 1
+pub at-most : (x : ℕ) → leb x 4611686018427387903 ≡ ltb x bound
+at-most x = go (ltb x bound) refl
+  where
+    go : (t : Bool) → ltb x bound ≡ t → leb x 4611686018427387903 ≡ t
+    go true e = le-leb x 4611686018427387903 (omega (arith, ltb-true x bound e))
+    go false e = lt-leb x 4611686018427387903 (omega (arith, ltb-false x bound e))
+
+-- a number that is none of those before it
+pub next : (x k : ℕ) → k ≤ x → (x ≡ k → ⊥) → suc k ≤ x
+next x k h n = omega arith
+
+-- an identifier above 0x10 and none of the three others
+pub unknown : (x : ℕ) → 0x10 < x → (x ≡ 0x20 → ⊥) → (x ≡ 0x2ab2 → ⊥) → (x ≡ 0xff04de1b → ⊥) → 21 ≡ placeOf x
+unfolding placeOf ids
+unknown x h n1 n2 n3 = go (ltb x bound) refl
+  where
+    above : (k : ℕ) → k ≤ 0x10 → eqb x k ≡ false
+    above k l = ne-eqb x k (omega arith)
+
+    go : (t : Bool) → ltb x bound ≡ t → 21 ≡ pick t (indexOf x ids) 21
+    go false e = refl
+    go true e =
+        simp (
+          above 0x01 (omega arith),
+          above 0x03 (omega arith),
+          above 0x04 (omega arith),
+          above 0x05 (omega arith),
+          above 0x06 (omega arith),
+          above 0x07 (omega arith),
+          above 0x08 (omega arith),
+          above 0x09 (omega arith),
+          above 0x0a (omega arith),
+          above 0x0b (omega arith),
+          above 0x0e (omega arith),
+          ne-eqb x bound (omega (arith, ltb-true x bound e)),
+          above 0x02 (omega arith),
+          above 0x0c (omega arith),
+          ne-eqb x 0x20 n1,
+          above 0x0d (omega arith),
+          above 0x00 (omega arith),
+          above 0x0f (omega arith),
+          above 0x10 (omega arith),
+          ne-eqb x 0x2ab2 n2,
+          ne-eqb x 0xff04de1b n3,
+        )
+
+pub not-true : (b : Bool) → not b ≡ true → b ≡ false
+not-true true h = sym h
+not-true false h = refl
+
+pub not-false : (b : Bool) → not b ≡ false → b ≡ true
+not-false true h = refl
+not-false false h = sym h
+
+-- what is left of a well-formed address, given what the types say
+pub address-formed : (a : PreferredAddress) → length (a .«address_v4» .ip) ≡ 4 → length (a .«address_v6» .ip) ≡ 16
+    → length (a .«stateless_reset_token» .bytes) ≡ 16 → a .«address_v4» .port < 65536 → a .«address_v6» .port < 65536
+    → formedAddress a
+    ≡ ((a .«address_v4» .present || unspecified (ofV4 (a .«address_v4»)))
+    && ((a .«address_v6» .present || unspecified (ofV6 (a .«address_v6»)))
+    && (formedCid (a .«connection_id»)
+    && (a .present
+    || (not (a .«address_v4» .present)
+    && (not (a .«address_v6» .present) && (eqb (a .«connection_id» .len) 0 && zeros (a .«stateless_reset_token» .bytes))))))))
+unfolding formedAddress formedFamily formedToken all
+address-formed a l4 l6 lt p4 p6 =
+    rw (
+      l4,
+      l6,
+      lt,
+      lt-ltb _ _ p4,
+      lt-ltb _ _ p6,
+      and-true (a .«address_v4» .present || unspecified (ofV4 (a .«address_v4»))),
+      and-true (a .«address_v6» .present || unspecified (ofV6 (a .«address_v6»))),
+    )
+    (simp and-true)

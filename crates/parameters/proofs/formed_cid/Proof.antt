@@ -1,0 +1,23 @@
+-- `parameters::formed_cid` meets its contract. Assumes nothing.
+use Rattle.parameters.specs.Record.{formedOptionalCid}
+use Rattle.connection_id.proofs.Laws.{and-true}
+use Rattle.refusal.specs.Outcome.{all}
+use borrow.Author.Needs.{needs}
+use Rattle.parameters.proofs.formed_cid.Statement.{statement}
+use Rattle.parameters.proofs.formed_cid.Tie as tie
+
+is-well-formed-requires : tie.Need-is-well-formed-requires
+is-well-formed-requires c κs = search needs
+
+or-requires : tie.Need-or-requires
+or-requires c κs = search needs
+
+and-requires : tie.Need-and-requires
+and-requires c κs = search needs
+
+returns : tie.Need-returns
+unfolding formedOptionalCid all
+returns c = simp and-true (cc)
+
+pub formed-cid-spec : {M : Type 1} → statement M
+formed-cid-spec = tie.close (tie.spec is-well-formed-requires or-requires and-requires returns)
