@@ -2,8 +2,9 @@
 --     zeros-are         zeros are a list of zeros
 --     zeros-replicate   a list of zeros is zeros
 --     zeros-append      zeros, part by part
---     zeros-drop        zeros from a place on: the byte there, and the rest
 --     or-none           bits joined are none exactly if both are none
+--     zeros-drop        zeros from a place on: the byte there, and the rest
+--     zeros-end         from the end on, only the bits met before count
 --     cid-facts         what it takes to be well formed
 --     cid-length        a well-formed ID has as many bytes as it says
 --     cid-of            a well-formed ID is that of its bytes
@@ -11,7 +12,7 @@
 --     cid-read          the ID of at most 20 bytes is well formed
 --     cid-same          the bytes of the ID of some bytes are these
 --     cid-back          a written ID reads back, with any bytes behind it
---     cid-sound         an accepted ID is well formed, its count within the input, and its form no shorter
+--     cid-sound         an accepted ID is well formed, its count within the input, and its bytes the only form of it
 use Prim.Native.Nat.{ℕ, zero, suc, _+_, _-_, _≤_, _<_}
 use mathlib.Core.Path.{_≡_, refl, ap, ap₂, sym, _∙_}
 use mathlib.Core.List.{List, [], _∷_, _++_}
@@ -44,6 +45,10 @@ and-assoc : (s t u : Bool) → (s && (t && u)) ≡ ((s && t) && u)
 and-assoc true t u = refl
 and-assoc false t u = refl
 
+pub and-true : (t : Bool) → (t && true) ≡ t
+and-true true = refl
+and-true false = refl
+
 pub zeros-append : (a b : List ℕ) → zeros (a ++ b) ≡ (zeros a && zeros b)
 zeros-append [] b = refl
 zeros-append (x ∷ a) b = ap (λ t. eqb x 0 && t) (zeros-append a b) ∙ and-assoc (eqb x 0) (zeros a) (zeros b)
@@ -65,10 +70,6 @@ zeros-drop acc l i h =
     ap (λ (m : List ℕ). eqb acc 0 && zeros m) (drop-cons l i 0 h)
     ∙ and-assoc (eqb acc 0) (eqb (getD l i 0) 0) (zeros (drop (suc i) l))
     ∙ ap₂ _&&_ (sym (or-none acc (getD l i 0))) (ap (λ (n : ℕ). zeros (drop n l)) (sym (add-one i)))
-
-pub and-true : (t : Bool) → (t && true) ≡ t
-and-true true = refl
-and-true false = refl
 
 pub zeros-end : (acc : ℕ) (l : List ℕ) (i : ℕ) → length l ≤ i → (eqb acc 0 && zeros (drop i l)) ≡ eqb acc 0
 zeros-end acc l i h = ap (λ (m : List ℕ). eqb acc 0 && zeros m) (drop-of-length-le l h) ∙ and-true (eqb acc 0)
@@ -122,6 +123,7 @@ pub record Sound (bs : List ℕ) (c : ConnectionId) (n : ℕ) : Type 0 where
   pub fit : n ≤ length bs
   pub count : n ≡ c .len + 1
   pub shortest : n ≡ length (cidWire c)
+  pub same : take n bs ≡ cidWire c
 
 both : (s t : Bool) → (s && t) ≡ true → (s ≡ true) × (t ≡ true)
 both true t h = (refl, h)
@@ -140,4 +142,11 @@ cid-sound (m ∷ bs) c n e = picked _ _ _ _ e (λ t a. go (both _ _ t) a)
         let f : formedCid c ≡ true = ap formedCid (sym s) ∙ cid-read (take m bs) (omega (arith, leb-true m 20 (t .0))) in
         let l : length (take m bs) ≡ c .len = ap (λ (d : ConnectionId). d .len) s in
         let w = cid-length c (cid-facts c f) in
-        record { formed = f; fit = omega (arith, leb-true m (length bs) (t .1)); count = omega arith; shortest = omega arith }
+        let e : m ≡ c .len = omega arith in
+        record {
+          formed = f;
+          fit = omega (arith, leb-true m (length bs) (t .1));
+          count = omega arith;
+          shortest = omega arith;
+          same = rw (← q, add-one) (ap₂ _∷_ e (sym (cid-same (take m bs)) ∙ ap cidBytes s));
+        }

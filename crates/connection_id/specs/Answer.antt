@@ -26,8 +26,10 @@ abbrev pub cidIn : Outcome (ConnectionId × ℕ) → ConnectionId
 cidIn (accepted a) = a .0
 cidIn (refused e) = cidOf []
 
+-- the outcome, and the ID
 abbrev pub settled : Outcome (ConnectionId × ℕ) → Outcome (ConnectionId × ℕ) × ConnectionId
 settled o = (o, cidIn o)
 
+-- an answer with an ID, as one value
 abbrev pub madeOf : CidAnswer → ConnectionId → DecodedCid
 madeOf a c = record { answer = a; cid = c }

@@ -31,6 +31,7 @@ impl ConnectionId {
     // The longest ID, in bytes.
     pub const MAX_SIZE: usize = 20;
 
+    // The ID of no bytes.
     pub fn empty() -> ConnectionId
         ensures { λ r. ⌜ r ≡ cidOf [] ⌝ }
     {
@@ -40,7 +41,7 @@ impl ConnectionId {
         }
     }
 
-    // The ID of these bytes.
+    // The ID of these bytes, of which there are at most 20.
     pub fn new(bytes: &[u8]) -> DecodedCid
         ensures { λ r. ⌜ (readOutcome r, r .cid) ≡ settled (makeCid (now (bytes .entry))) ⌝ }
     {
@@ -105,6 +106,7 @@ impl ConnectionId {
     }
 }
 
+// A refusal, with the empty ID.
 fn refuse(refusal: Refusal) -> DecodedCid
     ensures { λ r. ⌜ r ≡ madeOf (CidAnswer.Refused refusal) (cidOf []) ⌝ }
 {
@@ -114,6 +116,7 @@ fn refuse(refusal: Refusal) -> DecodedCid
     }
 }
 
+// The ID of at most 20 bytes.
 fn cid_of(v: &[u8]) -> ConnectionId
     requires { ⌜ length (now v) ≤ 20 ⌝ }
     ensures { λ r. ⌜ r ≡ cidOf (now (v .entry)) ⌝ }

@@ -1,6 +1,6 @@
 -- Records and the values on the wire: for each kind, what the record holds for a value received (In), and the value that is sent for
 -- what the record holds (Out); then the whole record from the values of all places, and the values of a record.
-use Prim.Native.Nat.{ℕ, suc, _+_, _-_}
+use Prim.Native.Nat.{ℕ, suc, _+_, _-_, _<_}
 use mathlib.Core.List.{List, [], _∷_, _++_}
 use mathlib.Core.Option.{Option, none, some}
 use mathlib.Core.Bool.{Bool, true, false, not}
@@ -22,6 +22,10 @@ use Rattle.parameters.specs.declared.PreferredAddress.{PreferredAddress}
 use Rattle.parameters.specs.declared.ReservedTransportParameter.{ReservedTransportParameter}
 use Rattle.parameters.specs.declared.WriteOrder.{WriteOrder}
 use Rattle.parameters.specs.Catalogue.{defaults, idLength}
+
+-- bytes are below 256
+abbrev pub Bytes : List ℕ → Type 0
+Bytes bs = (i : ℕ) → getD bs i 0 < 256
 
 -- the value at each place, or none
 abbrev pub Values : Type 0

@@ -1,0 +1,89 @@
+-- What reading gives, for any catalogue: nothing here names a place. Assumes nothing.
+--     grown      each value fits its place, and the shortest forms of all of them are no longer than the bytes read
+use Prim.Native.Nat.{ℕ, zero, suc, _+_, _≤_, _<_}
+use mathlib.Core.Path.{_≡_, refl}
+use mathlib.Core.List.{List, [], _∷_}
+use mathlib.Core.Option.{some}
+use mathlib.Core.Bool.{Bool, true, false, _&&_, not}
+use native.Mathlib.Omega.{arith}
+use lib.ListN.{length}
+use lib.Dec.{ltb, eqb}
+use borrow.Author.Tests.{ltb-true, eqb-true}
+use Rattle.refusal.specs.Outcome.{Result, accepted, refused, pick}
+use Rattle.refusal.proofs.Laws.{inverted}
+use Rattle.parameters.specs.Catalogue.{places, placeOf, idAt, kindAt, fits, illegal, parameter, parameterIf}
+use Rattle.parameters.specs.Values.{Bytes, Values, noValues, isSome, upd}
+use Rattle.parameters.proofs.Sums.{sum, but, sum-eq, sum-but}
+use Rattle.parameters.proofs.KindLaws.{Fits, IfSome}
+use Rattle.parameters.proofs.Places.{id-of-place, Good, sizeAt}
+use Rattle.reader.specs.declared.Fault.{Fault}
+use Rattle.reader.specs.declared.Fault.the-variants.{SecondCopy, Misfit, Illegal}
+use Rattle.reader.specs.Reading.{mayRepeat, readParameter, receive, step, parseIn, parse}
+use Rattle.reader.proofs.Front.{sized}
+
+-- the bytes of the values of all places, in their shortest form
+unfoldable pub total : Values → ℕ
+total l = sum places (sizeAt l)
+
+upd-total : (l : Values) (p : ℕ) (v : List ℕ) → p < places → total (upd l p (some v)) ≤ total l + length (parameter (idAt p) v)
+unfolding total upd
+upd-total l p v h =
+    let e : sum places (sizeAt (upd l p (some v))) ≡ sum places (but (sizeAt l) p (length (parameter (idAt p) v)))
+    = sum-eq places (sizeAt (upd l p (some v))) (but (sizeAt l) p (length (parameter (idAt p) v))) (λ q k. at q (eqb q p) refl) in
+    omega (arith, sum-but places (sizeAt l) p (length (parameter (idAt p) v)) h)
+  where
+    at : (q : ℕ) (b : Bool) → eqb q p ≡ b → length (parameterIf (idAt q) (pick b (some v) (l q))) ≡ pick b (length (parameter (idAt p) v)) (length (parameterIf (idAt q) (l q)))
+    at q true e = rw (eqb-true q p e)
+    at q false e = refl
+
+upd-good : (l : Values) (p : ℕ) (v : List ℕ) → Good l → Fits (kindAt p) v → Good (upd l p (some v))
+unfolding upd
+upd-good l p v g f q = go (eqb q p) refl
+  where
+    go : (b : Bool) → eqb q p ≡ b → IfSome (Fits (kindAt q)) (pick b (some v) (l q))
+    go true h = rw (eqb-true q p h) f
+    go false h = g q
+
+step-good : (l l′ : Values) (id : ℕ) (v : List ℕ) → Good l → Bytes v → step l id v ≡ accepted l′ → Good l′ × (total l′ ≤ total l + length (parameter id v))
+unfolding step receive
+step-good l l′ id v g hb e = go (ltb (placeOf id) places) refl e
+  where
+    at : (a b c : Bool) → placeOf id < places → illegal (kindAt (placeOf id)) v ≡ b → fits (kindAt (placeOf id)) v ≡ c
+        → pick {A = Result Fault Values} a (refused SecondCopy) (pick b (refused Illegal) (pick c (accepted (upd l (placeOf id) (some v))) (refused Misfit))) ≡ accepted l′
+        → Good l′ × (total l′ ≤ total l + length (parameter id v))
+    at false false true h x y e =
+        let i : upd l (placeOf id) (some v) ≡ l′ = cc in
+        rw (← i) (upd-good l (placeOf id) v g (record { legal = x; fit = y; bytes = hb }), rw (id-of-place id h) at (upd-total l (placeOf id) v h))
+    at false false false h x y e = let z : _≡_ {A = ℕ} 0 1 = cc in absurd (omega arith)
+    at false true c h x y e = let z : _≡_ {A = ℕ} 0 1 = cc in absurd (omega arith)
+    at true b c h x y e = let z : _≡_ {A = ℕ} 0 1 = cc in absurd (omega arith)
+
+    go : (b : Bool) → ltb (placeOf id) places ≡ b → pick {A = Result Fault Values} b (receive l (placeOf id) v) (accepted l) ≡ accepted l′
+        → Good l′ × (total l′ ≤ total l + length (parameter id v))
+    go true h e = at (isSome (l (placeOf id)) && not (mayRepeat (placeOf id))) (illegal (kindAt (placeOf id)) v) (fits (kindAt (placeOf id)) v) (ltb-true _ _ h) refl refl e
+    go false h e = let i : l ≡ l′ = cc in rw (← i) (g, omega arith)
+
+grow : (f : ℕ) (l l′ : Values) (bs : List ℕ) → Good l → Bytes bs → parseIn f l bs ≡ accepted l′ → Good l′ × (total l′ ≤ total l + length bs)
+grow zero l l′ [] g hb e = let i : l ≡ l′ = cc in rw (← i) (g, omega arith)
+grow zero l l′ (b ∷ bs) g hb e = let z : _≡_ {A = ℕ} 0 1 = cc in absurd (omega arith)
+grow (suc f) l l′ [] g hb e = let i : l ≡ l′ = cc in rw (← i) (g, omega arith)
+grow (suc f) l l′ (b ∷ bs) g hb e =
+    let ih = grow f in
+    inverted (readParameter (b ∷ bs)) _ l′ e λ i ie ef.
+    inverted (step l (i .0) (i .1)) _ l′ ef λ k ke kf.
+    let s = sized (b ∷ bs) i hb ie in
+    let a = step-good l k (i .0) (i .1) g (s .value-bytes) ke in
+    let c = ih k l′ (i .2) (a .0) (s .rest-bytes) kf in
+    (c .0, omega arith)
+
+empty-total : total noValues ≡ 0
+unfolding total noValues sum
+empty-total = refl
+
+empty-good : Good noValues
+unfolding noValues
+empty-good p = tt
+
+pub grown : (l : Values) (bs : List ℕ) → Bytes bs → parse noValues bs ≡ accepted l → Good l × (total l ≤ length bs)
+unfolding parse
+grown l bs hb e = let a = grow (length bs) noValues l bs empty-good hb e in (a .0, omega (arith, empty-total))

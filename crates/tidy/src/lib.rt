@@ -1,0 +1,1 @@
+// Tidying an extension: reading it, and writing what was read.
