@@ -81,7 +81,7 @@ module _ (r : TransportParameters) (w : wellFormed r ≡ true) (f : familyRules 
       at none d s k = rw (upd-none l p e)
       at (some v) d s k =
           parse-front l (parameter (idAt p) v ++ cs) (idAt p, v, cs) (front-parameter (idAt p) v cs (id-lt p h k) (small p (s .small)))
-          ∙ rw (place-of-id p h, lt-ltb p places h, e, s .legal f, s .fit)
+          ∙ rw (place-of-id p h k, lt-ltb p places h, e, s .legal f, s .fit)
 
       go : (b : Bool) → eqb p 11 ≡ b → parse l (pick b (reservedBytes (r .«grease_transport_parameter»)) (parameterIf (idAt p) (valuesOf r p)) ++ cs) ≡ parse (upd l p (valuesOf r p)) cs
       go true k = let q : p ≡ 11 = eqb-true p 11 k in let z : valuesOf r p ≡ none = rw q in rw (z, upd-none l p e) (reserved-skipped (r .«grease_transport_parameter») (all-at _ w 2) l cs)

@@ -20,6 +20,7 @@ use lib.Dec.{ltb, eqb}
 use borrow.Author.Tests.{lt-ltb, le-ltb, ltb-true, ltb-false, ne-eqb, eqb-true, eqb-false}
 use Rattle.refusal.specs.Outcome.{pick, all}
 use Rattle.refusal.proofs.Laws.{all-at}
+use Rattle.varint.specs.Number.{bound}
 use Rattle.parameters.specs.declared.TransportParameters.{TransportParameters}
 use Rattle.parameters.specs.Catalogue.{number, reserved, places, placeOf, ids, idAt, kinds, otherKinds, kindAt, defaults, indexOf, parameterIf}
 use Rattle.parameters.specs.Values.{Values, numberIn, numberOut, numbersIn, recordOf, noReserved, noOrder, otherValues, valuesOf}
@@ -43,9 +44,9 @@ below-at (suc n) f h p k = go (f n) refl h (eqb p n) refl (below-at n f)
     go false e h c d ih = let z : _≡_ {A = ℕ} 0 1 = cc in absurd (omega arith)
 
 -- each identifier has its place and fits a number, but the one of place 11
-pub place-of-id : (p : ℕ) → p < places → placeOf (idAt p) ≡ p
+pub place-of-id : (p : ℕ) → p < places → eqb p 11 ≡ false → placeOf (idAt p) ≡ p
 unfolding placeOf idAt ids
-place-of-id p h = eqb-true _ _ (below-at places (λ p. eqb (placeOf (idAt p)) p) refl p h)
+place-of-id p h k = eqb-true _ _ (rw k at (below-at places (λ p. pick (eqb p 11) true (eqb (placeOf (idAt p)) p)) refl p h))
 
 pub id-lt : (p : ℕ) → p < places → eqb p 11 ≡ false → idAt p < 2 ^ 62
 unfolding idAt ids
@@ -62,7 +63,11 @@ index-at x (y ∷ ys) h = go (eqb x y) refl h (index-at x ys)
 
 pub id-of-place : (id : ℕ) → placeOf id < places → idAt (placeOf id) ≡ id
 unfolding placeOf idAt ids
-id-of-place id h = index-at id ids h
+id-of-place id h = go (ltb id bound) h
+  where
+    go : (b : Bool) → pick b (indexOf id ids) places < places → getD ids (pick b (indexOf id ids) places) 0 ≡ id
+    go true k = index-at id ids k
+    go false k = absurd (omega arith)
 
 -- an identifier with remainder 27 on division by 31 is unknown
 none-of : (x : ℕ) (ys : List ℕ) → every (λ y. not (eqb (y % 31) 27)) ys ≡ true → x % 31 ≡ 27 → indexOf x ys ≡ length ys
@@ -76,7 +81,11 @@ none-of x (y ∷ ys) h k = go (eqb (y % 31) 27) refl h (none-of x ys)
 
 pub reserved-unknown : (x : ℕ) → x % 31 ≡ 27 → places ≤ placeOf x
 unfolding placeOf ids
-reserved-unknown x h = omega (arith, none-of x ids refl h)
+reserved-unknown x h = go (ltb x bound)
+  where
+    go : (b : Bool) → places ≤ pick b (indexOf x ids) places
+    go true = omega (arith, none-of x ids refl h)
+    go false = omega arith
 
 -- a fact of each place: the numbers alike, then place 11, then 12 to 20 by a list
 abbrev Each : (ℕ → Option (List ℕ) → Type 0) → ℕ → List (Option (List ℕ)) → Type 0
