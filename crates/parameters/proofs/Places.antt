@@ -115,7 +115,7 @@ unfolding valuesOf otherValues
 valuesOf-none r q h = rw (le-ltb q 11 (omega arith), ne-eqb q 11 (omega arith), List·getD-eq-default (otherValues r) none {n = q - 12} (omega arith))
 
 -- places 0 to 10
-number-kind : (p : ℕ) → p < 11 → kindAt p ≡ number
+pub number-kind : (p : ℕ) → p < 11 → kindAt p ≡ number
 unfolding kindAt kinds
 number-kind p h = List·getD-append (replicate 11 number) otherKinds reserved p h ∙ getD-replicate 11 p number reserved h
 

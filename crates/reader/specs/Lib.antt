@@ -1,2 +1,4 @@
 pub mod Reading
 pub mod Whole
+pub mod Index
+pub mod Answer

@@ -1,0 +1,29 @@
+-- `reader::check_number` meets its contract: the number's answer picks the case. Assumes nothing.
+use Rattle.varint.specs.Answer.{readOutcome}
+use Rattle.reader.proofs.Checks.{number-unread, number-fits, number-misfit}
+use mathlib.Core.Path.{_≡_, refl, ap, sym, _∙_}
+use borrow.Author.Needs.{needs}
+use Rattle.reader.proofs.check_number.Statement.{statement}
+use Rattle.reader.proofs.check_number.Tie as tie
+
+decode-requires : tie.Need-decode-requires
+decode-requires c κs = search needs
+
+enum-known-x : tie.Need-enum-known-x
+enum-known-x c = search needs
+
+enum-told : tie.Need-enum-told
+enum-told c = search needs
+
+returns : tie.Need-returns
+returns c = number-unread _ _ (sym (c .before .before .decode .ensures) ∙ ap readOutcome (c .enum-told .given .1))
+
+returns-2 : tie.Need-returns-2
+returns-2 c = number-fits _ _ _ (sym (c .before .before .before .before .decode .ensures) ∙ ap readOutcome (c .before .before .x .given .1)) (c .if1 .taken)
+
+returns-3 : tie.Need-returns-3
+returns-3 c = number-misfit _ _ _ (sym (c .before .before .before .before .decode .ensures) ∙ ap readOutcome (c .before .before .x .given .1)) (c .if1 .left)
+
+pub check-number-spec : {M : Type 1} → statement M
+check-number-spec =
+    tie.close (tie.spec decode-requires enum-known-x enum-told returns returns-2 returns-3)

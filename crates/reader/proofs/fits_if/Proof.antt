@@ -1,0 +1,13 @@
+-- `reader::fits_if` meets its contract. Assumes nothing.
+use borrow.Author.Needs.{needs}
+use Rattle.reader.proofs.fits_if.Statement.{statement}
+use Rattle.reader.proofs.fits_if.Tie as tie
+
+returns : tie.Need-returns
+returns c = search needs
+
+returns-2 : tie.Need-returns-2
+returns-2 c = rw (c .if1 .left)
+
+pub fits-if-spec : {M : Type 1} → statement M
+fits-if-spec = tie.close (tie.spec returns returns-2)
