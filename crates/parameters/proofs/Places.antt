@@ -123,7 +123,7 @@ default-lt : (p : ℕ) → p < 11 → getD defaults p 0 < 2 ^ 62
 unfolding defaults
 default-lt p h = ltb-true _ _ (below-at 11 (λ p. ltb (getD defaults p 0) (2 ^ 62)) refl p h)
 
-numbers-length : (ds : List ℕ) (k : ℕ) (l : Values) → length (numbersIn ds k l) ≡ length ds
+pub numbers-length : (ds : List ℕ) (k : ℕ) (l : Values) → length (numbersIn ds k l) ≡ length ds
 numbers-length [] k l = refl
 numbers-length (d ∷ ds) k l = ap suc (numbers-length ds (suc k) l)
 
@@ -132,7 +132,7 @@ numbers-at [] k l i h = absurd (omega arith)
 numbers-at (d ∷ ds) k l zero h = let e : k + 0 ≡ k = omega arith in rw e
 numbers-at (d ∷ ds) k l (suc i) h = let e : k + suc i ≡ suc k + i = omega arith in rw e (numbers-at ds (suc k) l i (omega arith))
 
-number-in : (l : Values) (p : ℕ) → p < 11 → getD (numbersIn defaults 0 l) p 0 ≡ numberIn (getD defaults p 0) (l p)
+pub number-in : (l : Values) (p : ℕ) → p < 11 → getD (numbersIn defaults 0 l) p 0 ≡ numberIn (getD defaults p 0) (l p)
 unfolding defaults
 number-in l p h = let e : 0 + p ≡ p = omega arith in rw e at (numbers-at defaults 0 l p h)
 

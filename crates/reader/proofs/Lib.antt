@@ -4,3 +4,4 @@ pub mod Grow
 pub mod Laws
 pub mod Checks
 pub mod Turn
+pub mod Built

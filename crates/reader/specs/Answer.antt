@@ -61,7 +61,7 @@ withRecord r Accepted = accepted r
 withRecord r (Refused e) = refused (numberOf e)
 
 abbrev pub readOutcome : Reading → Outcome TransportParameters
-readOutcome r = withRecord (r .record) (r .answer)
+readOutcome r = withRecord (r .parameters) (r .answer)
 
 -- the record that an outcome comes with: a refusal's is the default one
 abbrev pub recordIn : Outcome TransportParameters → TransportParameters
@@ -70,3 +70,7 @@ recordIn (refused e) = defaultRecord
 
 abbrev pub settled : Outcome TransportParameters → Outcome TransportParameters × TransportParameters
 settled o = (o, recordIn o)
+
+-- a refused call
+abbrev pub refusedReading : Fault → Reading
+refusedReading f = record { answer = Refused (refusedWith f); parameters = defaultRecord }

@@ -3,7 +3,7 @@ use Prim.Native.Nat.{ℕ, _-_, _≤_}
 use mathlib.Core.Path.{_≡_}
 use mathlib.Core.List.{List, [], _∷_, _++_}
 use mathlib.Core.Option.{Option, none, some}
-use mathlib.Core.Bool.{Bool, _&&_, not}
+use mathlib.Core.Bool.{Bool, true, _&&_, not}
 use lib.ListN.{length, getD, take, drop, replicate}
 use Rattle.refusal.specs.Outcome.{Result, accepted, refused, pick}
 use Rattle.varint.specs.Number.{readNumber}
@@ -49,3 +49,16 @@ pub record Indexed (src : List ℕ) (m : ℕ) (numbers from to : List ℕ) : Typ
   pub longTo : length to ≡ 21
   pub within : (p : ℕ) → (getD from p 0 ≤ getD to p 0) × (getD to p 0 ≤ length src)
   pub number-at : (p : ℕ) → kindAt p ≡ number → getD numbers p 0 ≡ numberIn (getD defaults p 0) (spans src m from to p)
+
+-- what was kept at a place: positions within the input, and a value that fits
+pub record Spanned (k : Kind) (src : List ℕ) (m : ℕ) (from to : List ℕ) (p : ℕ) : Type 0 where
+  pub longFrom : length from ≡ 21
+  pub longTo : length to ≡ 21
+  pub start : getD from p 0 ≤ getD to p 0
+  pub end : getD to p 0 ≤ length src
+  pub fit : marked m p ≡ true → fits k (take (getD to p 0 - getD from p 0) (drop (getD from p 0) src)) ≡ true
+
+-- what was kept of an input in which no parameter is at fault
+pub record Received (src : List ℕ) (m : ℕ) (numbers from to : List ℕ) : Type 0 where
+  pub indexed : Indexed src m numbers from to
+  pub fit : (p : ℕ) → marked m p ≡ true → fits (kindAt p) (take (getD to p 0 - getD from p 0) (drop (getD from p 0) src)) ≡ true

@@ -10,11 +10,11 @@ ghost use Rattle.refusal.specs.Outcome.{pick};
 ghost use Rattle.connection_id.specs.ConnectionId.{zeros};
 ghost use Rattle.marks.specs.Mark.{marked};
 ghost use Rattle.parameters.specs.Catalogue.{number, flag, cid, token, address, fits};
-ghost use Rattle.parameters.specs.Values.{noValues, cidIn, tokenIn, addressIn, familyIn, ofV4, ofV6, recordOf};
-ghost use Rattle.parameters.proofs.Places.{Good};
-ghost use Rattle.reader.specs.Reading.{mayRepeat, readParameter, parse, read};
-ghost use Rattle.reader.specs.Index.{spans, checkKind, checkValue, receiveValue, initialNumbers, Indexed};
-ghost use Rattle.reader.specs.Answer.{parameterOutcome, Within, valueOutcome, scanOutcome, ScanIndexed, readOutcome, settled, refusedWith, judged};
+ghost use Rattle.parameters.specs.Values.{noValues, cidIn, tokenIn, addressIn, familyIn, toV4, toV6, recordOf};
+ghost use Rattle.parameters.specs.Record.{valueRules};
+ghost use Rattle.reader.specs.Reading.{numbered, mayRepeat, readParameter, parse, judge, read};
+ghost use Rattle.reader.specs.Index.{spans, checkKind, checkValue, receiveValue, initialNumbers, Spanned, Received};
+ghost use Rattle.reader.specs.Answer.{parameterOutcome, Within, valueOutcome, scanOutcome, ScanIndexed, readOutcome, settled, refusedWith, refusedReading, judged};
 use connection_id::ConnectionId;
 use parameters::Microseconds;
 use parameters::OptionalConnectionId;
@@ -53,7 +53,7 @@ pub enum Answer {
 // The answer, and the record: the default one if refused.
 pub struct Reading {
     pub answer: Answer,
-    pub record: TransportParameters,
+    pub parameters: TransportParameters,
 }
 
 // The parameter at a position: its identifier, and where its value starts and ends.
@@ -264,4 +264,323 @@ fn scan(
         at = end;
     }
     Scanned::Marks(marks)
+}
+
+fn refuse(fault: Fault) -> Reading
+    ensures { λ r. ⌜ r ≡ refusedReading fault ⌝ }
+{
+    Reading {
+        answer: Answer::Refused(fault.refusal()),
+        parameters: TransportParameters::default(),
+    }
+}
+
+fn optional_in(present: bool, x: u64) -> OptionalNumber
+    ensures { λ r. ⌜ r ≡ pick present (OptionalNumber.Present x) OptionalNumber.Absent ⌝ }
+{
+    if present {
+        OptionalNumber::Present(x)
+    } else {
+        OptionalNumber::Absent
+    }
+}
+
+fn cid_in(present: bool, v: &[u8]) -> OptionalConnectionId
+    requires { ⌜ (present ≡ true → length (now v) ≤ 20) ⌝ }
+    ensures { λ r. ⌜ r ≡ cidIn (pick present (some (now (v .entry))) none) ⌝ }
+{
+    if !present {
+        return OptionalConnectionId {
+            present: false,
+            cid: ConnectionId::empty(),
+        };
+    }
+    let d = ConnectionId::new(v);
+    let cid = d.cid;
+    OptionalConnectionId { present: true, cid }
+}
+
+// Sixteen bytes as an array.
+fn bytes16(v: &[u8]) -> [u8; 16]
+    requires { ⌜ length (now v) ≡ 16 ⌝ }
+    ensures { λ r. ⌜ r ≡ now (v .entry) ⌝ }
+{
+    let mut bytes = [0u8; 16];
+    let mut i: usize = 0;
+    while i < ResetToken::SIZE {
+        bytes[i] = v[i];
+        i += 1;
+    }
+    bytes
+}
+
+fn token_in(present: bool, v: &[u8]) -> OptionalResetToken
+    requires { ⌜ (present ≡ true → length (now v) ≡ 16) ⌝ }
+    ensures { λ r. ⌜ r ≡ tokenIn (pick present (some (now (v .entry))) none) ⌝ }
+{
+    if !present {
+        return OptionalResetToken {
+            present: false,
+            token: ResetToken { bytes: [0; 16] },
+        };
+    }
+    let bytes = bytes16(v);
+    OptionalResetToken {
+        present: true,
+        token: ResetToken { bytes },
+    }
+}
+
+// A port, high byte first.
+fn port_of(high: u8, low: u8) -> u16
+    ensures { λ r. ⌜ r ≡ high * 256 + low ⌝ }
+{
+    ((high as u16) << 8) | (low as u16)
+}
+
+fn v4_of(v: &[u8]) -> SocketAddrV4
+    requires { ⌜ length (now v) ≡ 6 ⌝ }
+    ensures { λ r. ⌜ r ≡ toV4 (familyIn 4 (now (v .entry))) ⌝ }
+{
+    SocketAddrV4 {
+        present: !all_zero(v),
+        ip: [v[0], v[1], v[2], v[3]],
+        port: port_of(v[4], v[5]),
+    }
+}
+
+fn v6_of(v: &[u8]) -> SocketAddrV6
+    requires { ⌜ length (now v) ≡ 18 ⌝ }
+    ensures { λ r. ⌜ r ≡ toV6 (familyIn 16 (now (v .entry))) ⌝ }
+{
+    let ip = bytes16(&v[0..16]);
+    SocketAddrV6 {
+        present: !all_zero(v),
+        ip,
+        port: port_of(v[16], v[17]),
+    }
+}
+
+fn address_of(v: &[u8]) -> PreferredAddress
+    requires { ⌜ fits address (now v) ≡ true ⌝ }
+    ensures { λ r. ⌜ r ≡ addressIn (some (now (v .entry))) ⌝ }
+{
+    let n = v[24] as usize;
+    let end = 25 + n;
+    let address_v4 = v4_of(&v[0..6]);
+    let address_v6 = v6_of(&v[6..24]);
+    let d = ConnectionId::new(&v[25..end]);
+    let connection_id = d.cid;
+    let bytes = bytes16(&v[end..]);
+    PreferredAddress {
+        present: true,
+        address_v4,
+        address_v6,
+        connection_id,
+        stateless_reset_token: ResetToken { bytes },
+    }
+}
+
+fn address_in(present: bool, v: &[u8]) -> PreferredAddress
+    requires { ⌜ (present ≡ true → fits address (now v) ≡ true) ⌝ }
+    ensures { λ r. ⌜ r ≡ addressIn (pick present (some (now (v .entry))) none) ⌝ }
+{
+    if present {
+        return address_of(v);
+    }
+    let none = TransportParameters::default();
+    none.preferred_address
+}
+
+// What the scan kept at a place, as the record holds it.
+fn cid_at(
+    place: usize,
+    src: &[u8],
+    marks: u32,
+    from: &[usize; 21],
+    to: &[usize; 21],
+) -> OptionalConnectionId
+    requires { ⌜ (place < 21) × Spanned cid (now src) marks (now from) (now to) place ⌝ }
+    ensures { λ r. ⌜ r ≡ cidIn (spans (now (src .entry)) marks (now (from .entry)) (now (to .entry)) place) ⌝ }
+{
+    let f = from[place];
+    let t = to[place];
+    cid_in(marks::is_marked(marks, place), &src[f..t])
+}
+
+fn token_at(src: &[u8], marks: u32, from: &[usize; 21], to: &[usize; 21]) -> OptionalResetToken
+    requires { ⌜ Spanned token (now src) marks (now from) (now to) 12 ⌝ }
+    ensures { λ r. ⌜ r ≡ tokenIn (spans (now (src .entry)) marks (now (from .entry)) (now (to .entry)) 12) ⌝ }
+{
+    let f = from[12];
+    let t = to[12];
+    token_in(marks::is_marked(marks, 12), &src[f..t])
+}
+
+fn address_at(src: &[u8], marks: u32, from: &[usize; 21], to: &[usize; 21]) -> PreferredAddress
+    requires { ⌜ Spanned address (now src) marks (now from) (now to) 15 ⌝ }
+    ensures { λ r. ⌜ r ≡ addressIn (spans (now (src .entry)) marks (now (from .entry)) (now (to .entry)) 15) ⌝ }
+{
+    let f = from[15];
+    let t = to[15];
+    address_in(marks::is_marked(marks, 15), &src[f..t])
+}
+
+// The length of the preferred address's connection ID; 0 if there is no address.
+fn id_length(src: &[u8], marks: u32, from: &[usize; 21], to: &[usize; 21]) -> u8
+    requires { ⌜ Spanned address (now src) marks (now from) (now to) 15 ⌝ }
+    ensures { λ r. ⌜ r ≡ addressIn (spans (now (src .entry)) marks (now (from .entry)) (now (to .entry)) 15) .«connection_id» .len ⌝ }
+{
+    if !marks::is_marked(marks, 15) {
+        return 0;
+    }
+    let f = from[15];
+    src[f + 24]
+}
+
+// The numbers of places 0 to 10.
+fn numbers_of(n: &[u64; 21]) -> [u64; 11]
+    requires { ⌜ length (now n) ≡ 21 ⌝ }
+    ensures { λ r. ⌜ r ≡ take 11 (now (n .entry)) ⌝ }
+{
+    [
+        n[0],
+        n[1],
+        n[2],
+        n[3],
+        n[4],
+        n[5],
+        n[6],
+        n[7],
+        n[8],
+        n[9],
+        n[10],
+    ]
+}
+
+// The record of what the scan kept.
+fn record_of(
+    src: &[u8],
+    marks: u32,
+    n: &[u64; 21],
+    from: &[usize; 21],
+    to: &[usize; 21],
+) -> TransportParameters
+    requires { ⌜ Received (now src) marks (now n) (now from) (now to) ⌝ }
+    ensures { λ r. ⌜ r ≡ recordOf (spans (now (src .entry)) marks (now (from .entry)) (now (to .entry))) ⌝ }
+{
+    let numbers = numbers_of(n);
+    let stateless_reset_token = token_at(src, marks, from, to);
+    let preferred_address = address_at(src, marks, from, to);
+    let original_dst_cid = cid_at(16, src, marks, from, to);
+    let initial_src_cid = cid_at(17, src, marks, from, to);
+    let retry_src_cid = cid_at(18, src, marks, from, to);
+    TransportParameters {
+        numbers,
+        disable_active_migration: marks::is_marked(marks, 13),
+        max_datagram_frame_size: optional_in(marks::is_marked(marks, 14), n[14]),
+        initial_src_cid,
+        grease_quic_bit: marks::is_marked(marks, 19),
+        min_ack_delay: optional_in(marks::is_marked(marks, 20), n[20]),
+        original_dst_cid,
+        retry_src_cid,
+        stateless_reset_token,
+        preferred_address,
+        grease_transport_parameter: ReservedTransportParameter {
+            present: false,
+            id: 0,
+            payload: [0; 16],
+            payload_len: 0,
+        },
+        write_order: WriteOrder {
+            present: false,
+            places: [0; 21],
+        },
+    }
+}
+
+// Whether the value rules hold of what the scan kept.
+fn is_allowed(
+    side: Side,
+    src: &[u8],
+    marks: u32,
+    n: &[u64; 21],
+    from: &[usize; 21],
+    to: &[usize; 21],
+) -> bool
+    requires { ⌜ Received (now src) marks (now n) (now from) (now to) ⌝ }
+    ensures { λ r. ⌜ r ≡ valueRules side (recordOf (spans (now (src .entry)) marks (now (from .entry)) (now (to .entry)))) ⌝ }
+{
+    let numbers = numbers_of(n);
+    if !parameters::numbers_allowed(&numbers, Microseconds(n[20])) {
+        return false;
+    }
+    let original = marks::is_marked(marks, 16);
+    let address = marks::is_marked(marks, 15);
+    let retry = marks::is_marked(marks, 18);
+    let token = marks::is_marked(marks, 12);
+    parameters::presence_allowed(
+        side,
+        original,
+        address,
+        retry,
+        token,
+        id_length(src, marks, from, to),
+    )
+}
+
+fn judge(
+    side: Side,
+    src: &[u8],
+    marks: u32,
+    n: &[u64; 21],
+    from: &[usize; 21],
+    to: &[usize; 21],
+) -> Reading
+    requires { ⌜ Received (now src) marks (now n) (now from) (now to) ⌝ }
+    ensures { λ r. ⌜ (readOutcome r, r .parameters) ≡ settled (numbered (judge side (spans (now (src .entry)) marks (now (from .entry)) (now (to .entry))))) ⌝ }
+{
+    if !is_allowed(side, src, marks, n, from, to) {
+        return refuse(Fault::Illegal);
+    }
+    let parameters = record_of(src, marks, n, from, to);
+    Reading {
+        answer: Answer::Accepted,
+        parameters,
+    }
+}
+
+// Reads an extension for a side: the first fault from the front, then the value rules.
+pub fn read(side: Side, src: &[u8]) -> Reading
+    ensures { λ r. ⌜ (readOutcome r, r .parameters) ≡ settled (read side (now (src .entry))) ⌝ }
+{
+    let mut numbers = [
+        0u64,
+        65527,
+        0,
+        0,
+        0,
+        0,
+        0,
+        0,
+        3,
+        25,
+        2,
+        0,
+        0,
+        0,
+        0,
+        0,
+        0,
+        0,
+        0,
+        0,
+        0,
+    ];
+    let mut from = [0usize; 21];
+    let mut to = [0usize; 21];
+    match scan(src, &mut numbers, &mut from, &mut to) {
+        Scanned::Stopped(fault) => refuse(fault),
+        Scanned::Marks(marks) => judge(side, src, marks, &numbers, &from, &to),
+    }
 }

@@ -1,0 +1,78 @@
+-- `reader::is_allowed` meets its contract: the value rules, on what the scan kept. Assumes nothing.
+use Rattle.reader.proofs.Built.{spanned, rules-built}
+use Rattle.parameters.specs.Catalogue.{address, kindAt, kinds, otherKinds}
+use Rattle.connection_id.proofs.Laws.{and-true}
+use Rattle.parameters.proofs.Tests.{not-true, not-false}
+use mathlib.Core.Path.{_≡_, refl, ap, ap₂, sym, _∙_}
+use borrow.Author.Needs.{needs}
+use Rattle.reader.proofs.is_allowed.Statement.{statement}
+use Rattle.reader.proofs.is_allowed.Tie as tie
+
+numbers-of-requires : tie.Need-numbers-of-requires
+numbers-of-requires c κs = c .before .pre .indexed .long
+
+element-copy-out-t17 : tie.Need-element-copy-out-t17
+element-copy-out-t17 c = search needs
+
+numbers-allowed-requires : tie.Need-numbers-allowed-requires
+numbers-allowed-requires c κs = search needs
+
+returns : tie.Need-returns
+returns c =
+    let s = c .before .before .before .before .before .before in
+    let a = s .args in
+    let e = sym (c .before .numbers-allowed .ensures) ∙ not-true _ (c .if1 .taken) in
+    rw (rules-built (a .src .now) (a .marks) (a .n .now) (a .from .now) (a .to .now) (s .pre) (a .side), ← c .before .before .before .before .numbers-of .ensures, e)
+
+is-marked-requires : tie.Need-is-marked-requires
+is-marked-requires c κs = search needs
+
+is-marked-requires-2 : tie.Need-is-marked-requires-2
+is-marked-requires-2 c κs = search needs
+
+is-marked-requires-3 : tie.Need-is-marked-requires-3
+is-marked-requires-3 c κs = search needs
+
+is-marked-requires-4 : tie.Need-is-marked-requires-4
+is-marked-requires-4 c κs = search needs
+
+id-length-requires : tie.Need-id-length-requires
+unfolding kindAt kinds otherKinds
+id-length-requires c κs = (spanned (c .before .before .before .before .before .before .before .before .before .before .args .src .now) (c .before .before .before .before .before .before .before .before .before .before .args .marks) (c .before .before .before .before .before .before .before .before .before .before .args .n .now) (c .before .before .before .before .before .before .before .before .before .before .args .from .now) (c .before .before .before .before .before .before .before .before .before .before .args .to .now) (c .before .before .before .before .before .before .before .before .before .before .pre) address 15 refl)
+
+presence-allowed-requires : tie.Need-presence-allowed-requires
+presence-allowed-requires c κs = search needs
+
+returns-2 : tie.Need-returns-2
+returns-2 c =
+    let s = c .before .before .before .before .before .before .before .before .before .before .before .before in
+    let a = s .args in
+    let e = sym (c .before .before .before .before .before .before .before .numbers-allowed .ensures) ∙ not-false _ (c .before .before .before .before .before .before .if1 .left) in
+    rw (
+      rules-built (a .src .now) (a .marks) (a .n .now) (a .from .now) (a .to .now) (s .pre) (a .side),
+      ← c .before .before .before .before .before .before .before .before .before .before .numbers-of .ensures,
+      e,
+      and-true,
+      ← c .before .before .before .before .before .is-marked .ensures,
+      ← c .before .before .before .before .is-marked2 .ensures,
+      ← c .before .before .before .is-marked3 .ensures,
+      ← c .before .before .is-marked4 .ensures,
+      ← c .before .id-length .ensures,
+    )
+    (c .presence-allowed .ensures)
+
+pub is-allowed-spec : {M : Type 1} → statement M
+is-allowed-spec =
+    tie.close
+    (tie.spec
+    numbers-of-requires
+    element-copy-out-t17
+    numbers-allowed-requires
+    returns
+    is-marked-requires
+    is-marked-requires-2
+    is-marked-requires-3
+    is-marked-requires-4
+    id-length-requires
+    presence-allowed-requires
+    returns-2)

@@ -1,0 +1,16 @@
+-- `reader::refuse` meets its contract. Assumes nothing.
+use borrow.Author.Needs.{needs}
+use Rattle.reader.proofs.refuse.Statement.{statement}
+use Rattle.reader.proofs.refuse.Tie as tie
+
+refusal-requires : tie.Need-refusal-requires
+refusal-requires c κs = search needs
+
+default-requires : tie.Need-default-requires
+default-requires c κs = search needs
+
+returns : tie.Need-returns
+returns c = cc
+
+pub refuse-spec : {M : Type 1} → statement M
+refuse-spec = tie.close (tie.spec refusal-requires default-requires returns)
