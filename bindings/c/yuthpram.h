@@ -38,10 +38,10 @@ extern "C" {
  * 174  stateless_reset_token: presence (flag), 16 bytes
  * 191  preferred_address: presence (flag); IPv4: presence (flag), 4 address bytes, port (two bytes); IPv6: presence (flag), 16 address
  *      bytes, port (two bytes); connection ID, 21 bytes; token, 16 bytes
- * 256  grease_transport_parameter (reserved): presence (flag), identifier (eight bytes), payload length (one byte), payload (16 bytes)
- * 282  write_order: presence (flag), 21 places
+ * 255  grease_transport_parameter (reserved): presence (flag), identifier (eight bytes), payload length (one byte), payload (16 bytes)
+ * 281  write_order: presence (flag), 21 places
  */
-#define YUTHPRAM_RECORD_SIZE 304
+#define YUTHPRAM_RECORD_SIZE 303
 
 /* The longest extension of a well-formed record. */
 #define YUTHPRAM_MAX_EXTENSION 314
@@ -79,13 +79,13 @@ uint8_t yuthpram_cid_read(const uint8_t *src, size_t src_len, uint8_t *cid, size
 /* Writes the connection ID of an image behind a length byte. Refuses 7, then 5. */
 uint8_t yuthpram_cid_write(const uint8_t *cid, size_t cid_len, uint8_t *out, size_t out_len, size_t *count);
 
-/* The image of the default record. Refuses 5 if record_len is below 304. */
+/* The image of the default record. Refuses 5 if record_len is below 303. */
 uint8_t yuthpram_default(uint8_t *record, size_t record_len);
 
 /* Checks a record for a side. Refuses 7, then 2. */
 uint8_t yuthpram_check(const uint8_t *record, size_t record_len, uint8_t side);
 
-/* Reads an extension for a side. Refuses 1 or 2, then 5 if record_len is below 304. */
+/* Reads an extension for a side. Refuses 1 or 2, then 5 if record_len is below 303. */
 uint8_t yuthpram_read(uint8_t side, const uint8_t *src, size_t src_len, uint8_t *record, size_t record_len);
 
 /* Whether an order is a permutation of 0 to 20. Refuses 6. */
@@ -99,7 +99,7 @@ uint8_t yuthpram_tidy(uint8_t side, const uint8_t *src, size_t src_len, uint8_t 
 
 /* Builds a record to send, of YUTHPRAM_SETTINGS settings, the image of initial_src_cid, the draw for the reserved identifier, the
  * reserved payload (at most 15 bytes) and the order. Refuses 7 if settings_len is another, 4, 7 for the ID, 9, 6, then 5 if record_len
- * is below 304. */
+ * is below 303. */
 uint8_t yuthpram_new(const uint64_t *settings, size_t settings_len, const uint8_t *cid, size_t cid_len, uint64_t draw,
                      const uint8_t *payload, size_t payload_len, const uint8_t *order, size_t order_len, uint8_t *record,
                      size_t record_len);
