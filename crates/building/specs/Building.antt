@@ -18,10 +18,9 @@ use Rattle.parameters.specs.Record.{every, least, isServer, defaultRecord}
 use Rattle.writer.specs.Writing.{permutation}
 use Rattle.building.specs.declared.Settings.{Settings}
 
--- SETTINGS that go on the wire are below 2 ^ 62; a datagram size is cut, and the generator's ID length only compared with 0
-unfoldable pub settingsFit : Settings → Bool
-settingsFit s =
-    every (λ x. ltb x bound) (
+-- SETTINGS. Those that are sent as they are have to be below 2 ^ 62; not so a datagram size, which is cut, or the generator's ID length
+unfoldable pub sentSettings : Settings → List ℕ
+sentSettings s =
     s .«max_concurrent_bidi_streams»
     ∷ s .«max_concurrent_uni_streams»
     ∷ s .«receive_window»
@@ -29,7 +28,9 @@ settingsFit s =
     ∷ least (s .«max_idle_timeout»)
     ∷ s .«max_udp_payload_size»
     ∷ []
-    )
+
+unfoldable pub settingsFit : Settings → Bool
+settingsFit s = every (λ x. ltb x bound) (sentSettings s)
 
 -- active_connection_id_limit (RFC 9000 section 18.2), by the length of the IDs that are generated: no more than the default is of use if
 -- they are empty

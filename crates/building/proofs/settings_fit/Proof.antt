@@ -1,7 +1,7 @@
 -- `building::settings_fit` meets its contract. Assumes nothing.
 use Rattle.parameters.proofs.Tests.{at-most}
 use Rattle.connection_id.proofs.Laws.{and-true}
-use Rattle.building.specs.Building.{settingsFit}
+use Rattle.building.specs.Building.{settingsFit, sentSettings}
 use borrow.Author.Needs.{needs}
 use Rattle.building.proofs.settings_fit.Statement.{statement}
 use Rattle.building.proofs.settings_fit.Tie as tie
@@ -25,7 +25,7 @@ and-requires-5 : tie.Need-and-requires-5
 and-requires-5 c κs = search needs
 
 returns : tie.Need-returns
-unfolding settingsFit
+unfolding settingsFit sentSettings
 returns c = simp (and-true, ← at-most) (cc)
 
 pub settings-fit-spec : {M : Type 1} → statement M
