@@ -46,7 +46,7 @@ limit-below : (n : ℕ) → ltb (idLimit n) bound ≡ true
 unfolding idLimit
 limit-below n = pick-cases (λ x. ltb x bound ≡ true) (eqb n 0) 2 5 (λ e. refl) (λ e. refl)
 
-numbers-below : (s : Settings) → settingsFit s ≡ true → every (λ x. ltb x bound) (numbersFrom s) ≡ true
+numbers-below : (s : Settings) → settingsFit s ≡ true → every (λ x. ltb x bound) (numbersFrom s (idLimit (s .«cid_len»))) ≡ true
 unfolding settingsFit sentSettings numbersFrom defaults
 numbers-below s h =
     let a = below-at (sentSettings s) h in

@@ -32,8 +32,7 @@ sentSettings s =
 unfoldable pub settingsFit : Settings → Bool
 settingsFit s = every (λ x. ltb x bound) (sentSettings s)
 
--- active_connection_id_limit (RFC 9000 section 18.2), by the length of the IDs that are generated: no more than the default is of use if
--- they are empty
+-- active_connection_id_limit (RFC 9000 section 18.2), by the length of the IDs that are generated
 unfoldable pub idLimit : ℕ → ℕ
 idLimit n = pick (eqb n 0) 2 5
 
@@ -42,10 +41,10 @@ unfoldable pub cutSize : OptionalNumber → OptionalNumber
 cutSize Absent = Absent
 cutSize (Present x) = Present (min x 65535)
 
--- places 0 to 10. An absent idle timeout is 0, no timeout (RFC 9000 section 10.1); the one stream window is for all three kinds of
--- stream; ack_delay_exponent and max_ack_delay have their defaults
-unfoldable pub numbersFrom : Settings → List ℕ
-numbersFrom s =
+-- places 0 to 10, with the active_connection_id_limit. An absent idle timeout is 0, no timeout (RFC 9000 section 10.1); the stream window
+-- is that of all three kinds of stream; ack_delay_exponent and max_ack_delay have their defaults
+unfoldable pub numbersFrom : Settings → ℕ → List ℕ
+numbersFrom s limit =
     least (s .«max_idle_timeout»)
     ∷ s .«max_udp_payload_size»
     ∷ s .«receive_window»
@@ -56,7 +55,7 @@ numbersFrom s =
     ∷ s .«max_concurrent_uni_streams»
     ∷ getD defaults 8 0
     ∷ getD defaults 9 0
-    ∷ idLimit (s .«cid_len»)
+    ∷ limit
     ∷ []
 
 -- DRAWN VALUES. The reserved parameter: an identifier 31 * N + 27 (RFC 9000 sections 18.1 and 22.3) below 2 ^ 62, and a payload
@@ -83,7 +82,7 @@ orderFrom order = record { present = true; places = order }
 unfoldable pub recordFrom : Settings → ConnectionId → ReservedTransportParameter → WriteOrder → TransportParameters
 recordFrom s cid reserved order =
     record {
-      numbers = numbersFrom s;
+      numbers = numbersFrom s (idLimit (s .«cid_len»));
       «disable_active_migration» = isServer (s .side) && not (s .migration);
       «max_datagram_frame_size» = cutSize (s .«datagram_receive_buffer_size»);
       «initial_src_cid» = record { present = true; cid = cid };

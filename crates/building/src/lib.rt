@@ -4,9 +4,10 @@ ghost use mathlib.Core.Path.{_≡_};
 ghost use mathlib.Core.Bool.{_&&_, not};
 ghost use Prim.Native.Nat.{_-_, _≤_, _<_, min};
 ghost use lib.ListN.{length};
+ghost use Rattle.refusal.specs.Outcome.{pick};
 ghost use Rattle.varint.specs.Number.{bound};
 ghost use Rattle.parameters.specs.Record.{least, isServer, defaultRecord};
-ghost use Rattle.building.specs.Building.{settingsFit, idLimit, cutSize, numbersFrom, drawFits, reservedId, reservedFrom, orderFrom, recordFrom, build};
+ghost use Rattle.building.specs.Building.{settingsFit, cutSize, numbersFrom, drawFits, reservedId, reservedFrom, orderFrom, recordFrom, build};
 ghost use Rattle.building.specs.Answer.{madeOf, buildOutcome, settled};
 use connection_id::ConnectionId;
 use parameters::OptionalConnectionId;
@@ -48,7 +49,7 @@ pub struct Built {
     pub parameters: TransportParameters,
 }
 
-// The active_connection_id_limit, if IDs are not empty.
+// The active_connection_id_limit where IDs are not empty.
 const CID_QUEUE_LEN: u64 = 5;
 
 const MAX_DATAGRAM_SIZE: u64 = 65535;
@@ -101,10 +102,11 @@ fn settings_fit(s: Settings) -> bool
     )
 }
 
-fn cid_limit(cid_len: usize) -> u64
-    ensures { λ r. ⌜ r ≡ idLimit «cid_len» ⌝ }
+// The active_connection_id_limit, by whether the IDs that are generated are empty.
+fn cid_limit(empty: bool) -> u64
+    ensures { λ r. ⌜ r ≡ pick empty 2 5 ⌝ }
 {
-    if cid_len == 0 {
+    if empty {
         ACTIVE_CONNECTION_ID_LIMIT
     } else {
         CID_QUEUE_LEN
@@ -190,9 +192,9 @@ fn order_of(order: &[u8]) -> WriteOrder
     }
 }
 
-// The numbers of the catalogue's places 0 to 10.
-fn numbers_of(s: Settings) -> [u64; 11]
-    ensures { λ r. ⌜ r ≡ numbersFrom s ⌝ }
+// The numbers of places 0 to 10, with the active_connection_id_limit.
+fn numbers_of(s: Settings, limit: u64) -> [u64; 11]
+    ensures { λ r. ⌜ r ≡ numbersFrom s limit ⌝ }
 {
     let idle = s.max_idle_timeout;
     let window = s.stream_receive_window;
@@ -207,7 +209,7 @@ fn numbers_of(s: Settings) -> [u64; 11]
         s.max_concurrent_uni_streams,
         ACK_DELAY_EXPONENT,
         MAX_ACK_DELAY,
-        cid_limit(s.cid_len),
+        limit,
     ]
 }
 
@@ -222,13 +224,14 @@ fn record_of(
 {
     let size = s.datagram_receive_buffer_size;
     let side = s.side;
+    let limit = cid_limit(s.cid_len == 0);
     let others = TransportParameters::default();
     let original = others.original_dst_cid;
     let retry = others.retry_src_cid;
     let token = others.stateless_reset_token;
     let address = others.preferred_address;
     TransportParameters {
-        numbers: numbers_of(s),
+        numbers: numbers_of(s, limit),
         disable_active_migration: migration_disabled(side, s.migration),
         max_datagram_frame_size: cut_size(size),
         initial_src_cid: OptionalConnectionId { present: true, cid },

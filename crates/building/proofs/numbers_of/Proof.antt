@@ -8,12 +8,9 @@ use Rattle.building.proofs.numbers_of.Tie as tie
 idle-timeout-requires : tie.Need-idle-timeout-requires
 idle-timeout-requires c κs = search needs
 
-cid-limit-requires : tie.Need-cid-limit-requires
-cid-limit-requires c κs = search needs
-
 returns : tie.Need-returns
 unfolding numbersFrom defaults
-returns c = rw (c .before .idle-timeout .ensures, c .cid-limit .ensures)
+returns c = rw (c .idle-timeout .ensures)
 
 pub numbers-of-spec : {M : Type 1} → statement M
-numbers-of-spec = tie.close (tie.spec idle-timeout-requires cid-limit-requires returns)
+numbers-of-spec = tie.close (tie.spec idle-timeout-requires returns)
