@@ -1,2 +1,3 @@
 pub mod Orders
 pub mod Extension
+pub mod Permutations
