@@ -1,3 +1,5 @@
 pub mod Orders
 pub mod Extension
 pub mod Permutations
+pub mod Stored
+pub mod Due

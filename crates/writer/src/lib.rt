@@ -1,9 +1,25 @@
 // Writing an extension: `TransportParameters::write` of quinn's transport_parameters.rs.
 ghost use mathlib.Core.Path.{_≡_};
-ghost use Rattle.writer.specs.Writing.{permutation};
+ghost use mathlib.Core.List.{_∷_};
+ghost use mathlib.Core.Bool.{true};
+ghost use Prim.Native.Nat.{_+_, _<_, _≤_};
+ghost use lib.ListN.{length};
+ghost use Rattle.refusal.specs.Outcome.{front};
+ghost use Rattle.varint.specs.Number.{bound, numberBytes};
+ghost use Rattle.parameters.specs.Catalogue.{parameter, parameterIf};
+ghost use Rattle.parameters.specs.Values.{numberOut, optionalOut, flagOut, cidOut, tokenOut};
+ghost use Rattle.parameters.specs.Record.{formedOptional, formedOptionalCid, formedReserved};
+ghost use Rattle.writer.specs.Writing.{permutation, reservedBytes};
+ghost use Rattle.writer.specs.Stored.{Wrote};
 use marks::is_marked;
 use marks::with_mark;
+use parameters::OptionalConnectionId;
+use parameters::OptionalNumber;
+use parameters::OptionalResetToken;
+use parameters::ReservedTransportParameter;
 use parameters::TransportParameters;
+use varint::Encoded;
+use varint::VarInt;
 
 fn wide(x: u8) -> usize
     ensures { λ r. ⌜ r ≡ x ⌝ }
@@ -32,4 +48,175 @@ pub fn is_permutation(order: &[u8]) -> bool
         met = with_mark(met, place);
     }
     true
+}
+
+// Stores the bytes at the front of `out`.
+fn put_bytes(bytes: &[u8], out: &mut [u8])
+    requires { ⌜ length (now bytes) ≤ length (now out) ⌝ }
+    ensures { λ r. ⌜ now (out .exit) ≡ front (now (bytes .entry)) (now (out .entry)) ⌝ }
+{
+    let mut i: usize = 0;
+    while i < bytes.len() {
+        out[i] = bytes[i];
+        i += 1;
+    }
+}
+
+// Stores a value behind its length, which is one byte.
+fn put_value(value: &[u8], out: &mut [u8]) -> usize
+    requires { ⌜ (length (now value) < 64) × (length (now value) < length (now out)) ⌝ }
+    ensures { λ r. ⌜ Wrote (length (now (value .entry)) + 1) (length (now (value .entry)) ∷ now (value .entry)) (now (out .entry)) r (now (out .exit)) ⌝ }
+{
+    let n = value.len();
+    put_bytes(value, &mut out[1..]);
+    out[0] = n as u8;
+    n + 1
+}
+
+// Stores a number, for which there is room.
+fn put_number(x: u64, out: &mut [u8]) -> usize
+    requires { ⌜ (x < bound) × (8 ≤ length (now out)) ⌝ }
+    ensures { λ r. ⌜ Wrote 8 (numberBytes x) (now (out .entry)) r (now (out .exit)) ⌝ }
+{
+    let Encoded::Count(n) = VarInt(x).encode(out) else {
+        return 0;
+    };
+    n
+}
+
+// Stores a number behind its length.
+fn put_number_value(x: u64, out: &mut [u8]) -> usize
+    requires { ⌜ (x < bound) × (9 ≤ length (now out)) ⌝ }
+    ensures { λ r. ⌜ Wrote 9 (length (numberBytes x) ∷ numberBytes x) (now (out .entry)) r (now (out .exit)) ⌝ }
+{
+    let n = put_number(x, &mut out[1..]);
+    out[0] = n as u8;
+    n + 1
+}
+
+// A parameter that holds a number, with an identifier of one byte.
+fn put_number_parameter(id: u8, x: u64, out: &mut [u8]) -> usize
+    requires { ⌜ (id < 64) × (x < bound) × (10 ≤ length (now out)) ⌝ }
+    ensures { λ r. ⌜ Wrote 10 (parameter id (numberBytes x)) (now (out .entry)) r (now (out .exit)) ⌝ }
+{
+    let n = put_number_value(x, &mut out[1..]);
+    out[0] = id;
+    n + 1
+}
+
+// A number, unless it is the default.
+fn put_unless_default(id: u8, default: u64, x: u64, out: &mut [u8]) -> usize
+    requires { ⌜ (id < 64) × (x < bound) × (10 ≤ length (now out)) ⌝ }
+    ensures { λ r. ⌜ Wrote 10 (parameterIf id (numberOut default x)) (now (out .entry)) r (now (out .exit)) ⌝ }
+{
+    if x == default {
+        return 0;
+    }
+    put_number_parameter(id, x, out)
+}
+
+// A number, if present: 0 is not the same as absent.
+fn put_optional(id: u8, o: OptionalNumber, out: &mut [u8]) -> usize
+    requires { ⌜ (id < 64) × (formedOptional o ≡ true) × (10 ≤ length (now out)) ⌝ }
+    ensures { λ r. ⌜ Wrote 10 (parameterIf id (optionalOut o)) (now (out .entry)) r (now (out .exit)) ⌝ }
+{
+    let OptionalNumber::Present(x) = o else {
+        return 0;
+    };
+    put_number_parameter(id, x, out)
+}
+
+// The identifier of min_ack_delay, 0xff04de1b.
+fn put_min_ack_delay_id(out: &mut [u8])
+    requires { ⌜ 8 ≤ length (now out) ⌝ }
+    ensures { λ r. ⌜ now (out .exit) ≡ front (numberBytes 0xff04de1b) (now (out .entry)) ⌝ }
+{
+    out[0] = 0xc0;
+    out[1] = 0;
+    out[2] = 0;
+    out[3] = 0;
+    out[4] = 0xff;
+    out[5] = 0x04;
+    out[6] = 0xde;
+    out[7] = 0x1b;
+}
+
+fn put_min_ack_delay(o: OptionalNumber, out: &mut [u8]) -> usize
+    requires { ⌜ (formedOptional o ≡ true) × (17 ≤ length (now out)) ⌝ }
+    ensures { λ r. ⌜ Wrote 17 (parameterIf 0xff04de1b (optionalOut o)) (now (out .entry)) r (now (out .exit)) ⌝ }
+{
+    let OptionalNumber::Present(x) = o else {
+        return 0;
+    };
+    put_min_ack_delay_id(out);
+    8 + put_number_value(x, &mut out[8..])
+}
+
+// A parameter without a value, if set.
+fn put_flag(id: u8, due: bool, out: &mut [u8]) -> usize
+    requires { ⌜ (id < 64) × (2 ≤ length (now out)) ⌝ }
+    ensures { λ r. ⌜ Wrote 2 (parameterIf id (flagOut due)) (now (out .entry)) r (now (out .exit)) ⌝ }
+{
+    if !due {
+        return 0;
+    }
+    out[0] = id;
+    out[1] = 0;
+    2
+}
+
+// The same for grease_quic_bit, whose identifier, 0x2ab2, is two bytes long.
+fn put_grease_quic_bit(due: bool, out: &mut [u8]) -> usize
+    requires { ⌜ 3 ≤ length (now out) ⌝ }
+    ensures { λ r. ⌜ Wrote 3 (parameterIf 0x2ab2 (flagOut due)) (now (out .entry)) r (now (out .exit)) ⌝ }
+{
+    if !due {
+        return 0;
+    }
+    out[0] = 0x6a;
+    out[1] = 0xb2;
+    out[2] = 0;
+    3
+}
+
+fn put_cid(id: u8, o: OptionalConnectionId, out: &mut [u8]) -> usize
+    requires { ⌜ (id < 64) × (formedOptionalCid o ≡ true) × (22 ≤ length (now out)) ⌝ }
+    ensures { λ r. ⌜ Wrote 22 (parameterIf id (cidOut o)) (now (out .entry)) r (now (out .exit)) ⌝ }
+{
+    if !o.present {
+        return 0;
+    }
+    let cid = o.cid;
+    let n = wide(cid.len);
+    let bytes = cid.bytes;
+    let end = put_value(&bytes[..n], &mut out[1..]);
+    out[0] = id;
+    end + 1
+}
+
+fn put_token(o: OptionalResetToken, out: &mut [u8]) -> usize
+    requires { ⌜ 18 ≤ length (now out) ⌝ }
+    ensures { λ r. ⌜ Wrote 18 (parameterIf 0x02 (tokenOut o)) (now (out .entry)) r (now (out .exit)) ⌝ }
+{
+    if !o.present {
+        return 0;
+    }
+    let token = o.token;
+    let bytes = token.bytes;
+    let end = put_value(&bytes, &mut out[1..]);
+    out[0] = 0x02;
+    end + 1
+}
+
+fn put_reserved(x: ReservedTransportParameter, out: &mut [u8]) -> usize
+    requires { ⌜ (formedReserved x ≡ true) × (25 ≤ length (now out)) ⌝ }
+    ensures { λ r. ⌜ Wrote 25 (reservedBytes x) (now (out .entry)) r (now (out .exit)) ⌝ }
+{
+    if !x.present {
+        return 0;
+    }
+    let payload = x.payload;
+    let n = wide(x.payload_len);
+    let at = put_number(x.id, out);
+    at + put_value(&payload[..n], &mut out[at..])
 }
