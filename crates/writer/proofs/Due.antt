@@ -1,28 +1,32 @@
 -- What is due of each kind. Assumes nothing.
-use Prim.Native.Nat.{ℕ, suc, _+_, _≤_, _<_}
+use Prim.Native.Nat.{ℕ, suc, _+_, _-_, _/_, _%_, _≤_, _<_}
 use mathlib.Core.List.{List, [], _∷_, _++_}
 use mathlib.Core.Path.{_≡_, refl, ap, sym, _∙_}
 use mathlib.Core.Bool.{Bool, true, false}
 use native.Mathlib.Omega.{arith}
-use lib.ListN.{length, take}
+use native.Mathlib.Nat.{mod-eq-of-lt, div-one}
+use lib.ListN.{length, take, drop, set}
 use lib.Seq.{length-take-le}
 use borrow.Author.Tests.{eq-eqb, ne-eqb, ltb-true, leb-true, eqb-true}
 use Rattle.refusal.specs.Outcome.{pick, all, front}
 use Rattle.refusal.proofs.Laws.{all-at}
-use Rattle.varint.specs.Number.{bound, form, tagOf, numberBytes}
-use Rattle.connection_id.specs.ConnectionId.{cidBytes, formedCid}
+use Rattle.varint.specs.Number.{bound, bytesOf, form, tagOf, numberBytes}
+use Rattle.varint.proofs.Bytes.{stored}
+use Rattle.connection_id.specs.declared.ConnectionId.{ConnectionId}
+use Rattle.connection_id.specs.ConnectionId.{cidBytes, cidWire, formedCid}
 use Rattle.connection_id.proofs.Laws.{Cid, cid-facts, cid-length}
 use Rattle.parameters.specs.declared.OptionalNumber.{OptionalNumber}
 use Rattle.parameters.specs.declared.OptionalNumber.the-variants.{Absent, Present}
 use Rattle.parameters.specs.declared.OptionalConnectionId.{OptionalConnectionId}
 use Rattle.parameters.specs.declared.OptionalResetToken.{OptionalResetToken}
+use Rattle.parameters.specs.declared.PreferredAddress.{PreferredAddress}
 use Rattle.parameters.specs.declared.ReservedTransportParameter.{ReservedTransportParameter}
 use Rattle.parameters.specs.Catalogue.{parameter, parameterIf}
-use Rattle.parameters.specs.Values.{numberOut, optionalOut, flagOut, cidOut, tokenOut}
-use Rattle.parameters.specs.Record.{formedOptional, formedOptionalCid, formedReserved}
+use Rattle.parameters.specs.Values.{numberOut, optionalOut, flagOut, cidOut, tokenOut, Family, ofV4, ofV6, familyOut, addressOut}
+use Rattle.parameters.specs.Record.{formedOptional, formedOptionalCid, formedAddress, formedReserved}
 use Rattle.writer.specs.Writing.{reservedBytes}
 use Rattle.writer.specs.Stored.{Wrote}
-use Rattle.writer.proofs.Stored.{short-form, one-byte, number-size}
+use Rattle.writer.proofs.Stored.{wrote-then, short-form, one-byte, number-size}
 
 -- numbers
 pub number-default : (id d x : ℕ) → x ≡ d → parameterIf id (numberOut d x) ≡ []
@@ -71,18 +75,21 @@ unfolding parameter form tagOf
 grease-bytes = refl
 
 -- connection IDs
+pub id-part : (c : ConnectionId) (n : ℕ) → formedCid c ≡ true → n ≡ c .len → (length (take n (c .bytes)) ≡ n) × (n ≤ 20) × (n ≤ length (c .bytes))
+id-part c n h e =
+    let k = cid-facts c h in
+    (length-take-le n (c .bytes) (omega (arith, k .long, k .within)), omega (arith, k .within), omega (arith, k .long, k .within))
+
 pub cid-absent : (id : ℕ) (o : OptionalConnectionId) → o .present ≡ false → parameterIf id (cidOut o) ≡ []
 unfolding cidOut
 cid-absent id o e = rw e
 
-pub cid-known : (o : OptionalConnectionId) → formedOptionalCid o ≡ true → Cid (o .cid)
-unfolding formedOptionalCid
-cid-known o h = cid-facts (o .cid) (all-at _ h 0)
+pub id-wire : (c : ConnectionId) (n : ℕ) → formedCid c ≡ true → n ≡ c .len → length (take n (c .bytes)) ∷ take n (c .bytes) ≡ cidWire c
+id-wire c n h e = rw (id-part c n h e .0, e)
 
 pub cid-part : (o : OptionalConnectionId) (n : ℕ) → formedOptionalCid o ≡ true → n ≡ o .cid .len → (length (take n (o .cid .bytes)) ≡ n) × (n ≤ 20) × (n ≤ length (o .cid .bytes))
-cid-part o n h e =
-    let k = cid-known o h in
-    (length-take-le n (o .cid .bytes) (omega (arith, k .long, k .within)), omega (arith, k .within), omega (arith, k .long, k .within))
+unfolding formedOptionalCid
+cid-part o n h e = id-part (o .cid) n (all-at _ h 0) e
 
 pub cid-due : (id n : ℕ) (o : OptionalConnectionId) → id < 64 → formedOptionalCid o ≡ true → n ≡ o .cid .len → o .present ≡ true
     → parameterIf id (cidOut o) ≡ id ∷ length (take n (o .cid .bytes)) ∷ take n (o .cid .bytes)
@@ -122,3 +129,31 @@ pub reserved-due : (x : ReservedTransportParameter) (n : ℕ) → formedReserved
     → reservedBytes x ≡ numberBytes (x .id) ++ (length (take n (x .payload)) ∷ take n (x .payload))
 unfolding reservedBytes parameter
 reserved-due x n h q e = rw (e, ← q, one-byte (length (take n (x .payload))) (omega (arith, reserved-part x n h q)))
+
+-- the preferred address
+pub port-stored : (x : ℕ) (l : List ℕ) → x < 65536 → 2 ≤ length l → Wrote 2 (bytesOf 2 x) l 2 (set (set l 0 (x / 256)) 1 (x % 256))
+port-stored x l h k =
+    let m : x / 256 < 256 = omega arith in
+    rw (mod-eq-of-lt m, div-one) (record { count = refl; few = omega arith; bytes = stored (x / 256 ∷ x % 256 ∷ []) l k })
+
+pub family-stored : (n : ℕ) (f : Family) (l m ys : List ℕ) → length (f .1) ≡ n → n + 2 ≤ length l → m ≡ front (f .1) l
+    → Wrote 2 (bytesOf 2 (f .2)) (take (length m - n) (drop n m)) 2 ys
+    → Wrote (n + 2) (familyOut f) l (n + 2) (take n m ++ (ys ++ drop (length m - n) (drop n m)))
+unfolding familyOut
+family-stored n f l m ys e h q w =
+    wrote-then n 2 n 2 (f .1) (bytesOf 2 (f .2)) l m ys h (record { count = sym e; few = omega arith; bytes = q }) w
+
+pub address-absent : (id : ℕ) (a : PreferredAddress) → a .present ≡ false → parameterIf id (addressOut a) ≡ []
+unfolding addressOut
+address-absent id a e = rw e
+
+pub address-id : (a : PreferredAddress) → formedAddress a ≡ true → formedCid (a .«connection_id») ≡ true
+unfolding formedAddress
+address-id a h = all-at _ h 2
+
+pub address-due : (id : ℕ) (a : PreferredAddress) (v : List ℕ) → id < 64 → length v ≤ 61 → a .present ≡ true
+    → v ≡ familyOut (ofV4 (a .«address_v4»))
+    ++ (familyOut (ofV6 (a .«address_v6»)) ++ (a .«connection_id» .len ∷ (cidBytes (a .«connection_id») ++ a .«stateless_reset_token» .bytes)))
+    → parameterIf id (addressOut a) ≡ id ∷ length v ∷ v
+unfolding addressOut
+address-due id a v h k e q = rw (e, ← q) (short-form id v h (omega arith))

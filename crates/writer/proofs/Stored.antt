@@ -1,6 +1,7 @@
 -- What writers leave, one after another. Assumes nothing.
 --     front-then      bytes stored behind others, in the part lent for them
---     wrote-then      a writer after another
+--     wrote-then      one writer after another
+--     wrote-three     and a third
 --     wrote-front     a byte stored in front of what a writer left
 --     encoded, never  a number that there is room for is stored, and not refused
 --     short-form      a parameter whose identifier and length are one byte each
@@ -35,13 +36,19 @@ pub length-front : (s l : List ℕ) → length s ≤ length l → length (front 
 unfolding front
 length-front s l h = simp (length-append, length-drop) (omega arith)
 
--- the part from a place on, whole
-rest : (at : ℕ) (l : List ℕ) → take (length l - at) (drop at l) ≡ drop at l
+-- what is lent from a place on, and the whole when it is back
+abbrev pub lent : ℕ → List ℕ → List ℕ
+lent at l = take (length l - at) (drop at l)
+
+abbrev pub back : ℕ → List ℕ → List ℕ → List ℕ
+back at l ys = take at l ++ (ys ++ drop (length l - at) (drop at l))
+
+rest : (at : ℕ) (l : List ℕ) → lent at l ≡ drop at l
 rest at l = take-all (length l - at) (drop at l) (omega (arith, length-drop at l))
 
 -- b behind a, in the part lent for it
-pub front-then : (a b l m ys : List ℕ) (at : ℕ) → at ≡ length a → length a + length b ≤ length l → m ≡ front a l
-    → ys ≡ front b (take (length m - at) (drop at m)) → take at m ++ (ys ++ drop (length m - at) (drop at m)) ≡ front (a ++ b) l
+pub front-then : (a b l m ys : List ℕ) (at : ℕ) → at ≡ length a → length a + length b ≤ length l → m ≡ front a l → ys ≡ front b (lent at m)
+    → back at m ys ≡ front (a ++ b) l
 unfolding front
 front-then a b l m ys at e h f g =
     let k : length m ≡ length l = ap length f ∙ length-front a l (omega arith) in
@@ -51,9 +58,12 @@ front-then a b l m ys at e h f g =
     let y : ys ≡ b ++ drop (length a + length b) l = g ∙ simp (rest at m ∙ d, drop-drop) in
     simp (t, z, y, append-nil, append-assoc, length-append)
 
--- a writer that was lent what stands behind another's bytes
-pub wrote-then : (p q n k : ℕ) (a b l m ys : List ℕ) → p + q ≤ length l → Wrote p a l n m → Wrote q b (take (length m - n) (drop n m)) k ys
-    → Wrote (p + q) (a ++ b) l (n + k) (take n m ++ (ys ++ drop (length m - n) (drop n m)))
+pub wrote-as : (p n : ℕ) (a b l m : List ℕ) → a ≡ b → Wrote p a l n m → Wrote p b l n m
+wrote-as p n a b l m e w = record { count = w .count ∙ ap length e; few = w .few; bytes = w .bytes ∙ ap (λ (s : List ℕ). front s l) e }
+
+-- one writer after another, and a third
+pub wrote-then : (p q n k : ℕ) (a b l m ys : List ℕ) → p + q ≤ length l → Wrote p a l n m → Wrote q b (lent n m) k ys
+    → Wrote (p + q) (a ++ b) l (n + k) (back n m ys)
 wrote-then p q n k a b l m ys h x y =
     let c = x .count in
     let d = y .count in
@@ -63,6 +73,12 @@ wrote-then p q n k a b l m ys h x y =
       bytes = front-then a b l m ys n c (omega (arith, x .few, y .few)) (x .bytes) (y .bytes);
     }
 
+pub wrote-three : (p q r n k j : ℕ) (a b d l m ys zs : List ℕ) → p + q + r ≤ length l → Wrote p a l n m → Wrote q b (lent n m) k ys
+    → Wrote r d (lent (n + k) (back n m ys)) j zs → Wrote (p + q + r) (a ++ (b ++ d)) l (n + k + j) (back (n + k) (back n m ys) zs)
+wrote-three p q r n k j a b d l m ys zs h x y z =
+    wrote-as (p + q + r) (n + k + j) (a ++ b ++ d) (a ++ (b ++ d)) l _ (append-assoc a b d)
+    (wrote-then (p + q) r (n + k) j (a ++ b) d l (back n m ys) zs h (wrote-then p q n k a b l m ys (omega arith) x y) z)
+
 pub wrote-none : (p : ℕ) (l : List ℕ) → Wrote p [] l 0 l
 wrote-none p l = record { count = refl; few = omega arith; bytes = sym (front-nil l) }
 
@@ -70,8 +86,8 @@ pub wrote-few : (p q n : ℕ) (a l m : List ℕ) → n ≤ q → Wrote p a l n m
 wrote-few p q n a l m h w = record { count = w .count; few = h; bytes = w .bytes }
 
 -- a byte in front of bytes that a writer stored behind it
-pub wrote-front : (p n b d : ℕ) (s l ys : List ℕ) → 0 < length l → b ≡ d → Wrote p s (take (length l - 1) (drop 1 l)) n ys
-    → Wrote (p + 1) (d ∷ s) l (n + 1) (set (take 1 l ++ (ys ++ drop (length l - 1) (drop 1 l))) 0 b)
+pub wrote-front : (p n b d : ℕ) (s l ys : List ℕ) → 0 < length l → b ≡ d → Wrote p s (lent 1 l) n ys
+    → Wrote (p + 1) (d ∷ s) l (n + 1) (set (back 1 l ys) 0 b)
 unfolding front
 wrote-front p n b d s [] ys h q w = absurd (omega arith)
 wrote-front p n b d s (x ∷ l) ys h q w =
@@ -82,6 +98,22 @@ wrote-front p n b d s (x ∷ l) ys h q w =
       count = add-one n ∙ ap suc (w .count);
       few = omega (arith, w .few);
       bytes = ap₂ _∷_ q (rw (e, z, append-nil) (rw (e, t) at (w .bytes)));
+    }
+
+-- two bytes in front
+pub wrote-front-two : (p n a b d : ℕ) (s l ys : List ℕ) → 1 < length l → b ≡ d → Wrote p s (lent 2 l) n ys
+    → Wrote (p + 2) (a ∷ d ∷ s) l (n + 2) (set (set (back 2 l ys) 0 a) 1 b)
+unfolding front
+wrote-front-two p n a b d s [] ys h q w = absurd (omega arith)
+wrote-front-two p n a b d s (x ∷ []) ys h q w = absurd (omega arith)
+wrote-front-two p n a b d s (x ∷ y ∷ l) ys h q w =
+    let e : suc (suc (length l)) - 2 ≡ length l = omega arith in
+    let t : take (length l) l ≡ l = take-length l in
+    let z : drop (length l) l ≡ [] = drop-of-length-le l {i = length l} (omega arith) in
+    record {
+      count = omega (arith, w .count);
+      few = omega (arith, w .few);
+      bytes = ap₂ (λ (i : ℕ) (m : List ℕ). a ∷ i ∷ m) q (rw (e, z, append-nil) (rw (e, t) at (w .bytes)));
     }
 
 -- numbers

@@ -1,22 +1,28 @@
 // Writing an extension: `TransportParameters::write` of quinn's transport_parameters.rs.
 ghost use mathlib.Core.Path.{_≡_};
-ghost use mathlib.Core.List.{_∷_};
+ghost use mathlib.Core.List.{_∷_, _++_};
 ghost use mathlib.Core.Bool.{true};
 ghost use Prim.Native.Nat.{_+_, _<_, _≤_};
 ghost use lib.ListN.{length};
 ghost use Rattle.refusal.specs.Outcome.{front};
-ghost use Rattle.varint.specs.Number.{bound, numberBytes};
+ghost use Rattle.varint.specs.Number.{bound, bytesOf, numberBytes};
+ghost use Rattle.connection_id.specs.ConnectionId.{cidBytes, formedCid};
 ghost use Rattle.parameters.specs.Catalogue.{parameter, parameterIf};
-ghost use Rattle.parameters.specs.Values.{numberOut, optionalOut, flagOut, cidOut, tokenOut};
-ghost use Rattle.parameters.specs.Record.{formedOptional, formedOptionalCid, formedReserved};
+ghost use Rattle.parameters.specs.Values.{numberOut, optionalOut, flagOut, cidOut, tokenOut, ofV4, ofV6, familyOut, addressOut};
+ghost use Rattle.parameters.specs.Record.{formedOptional, formedOptionalCid, formedAddress, formedReserved};
 ghost use Rattle.writer.specs.Writing.{permutation, reservedBytes};
 ghost use Rattle.writer.specs.Stored.{Wrote};
+use connection_id::ConnectionId;
 use marks::is_marked;
 use marks::with_mark;
 use parameters::OptionalConnectionId;
 use parameters::OptionalNumber;
 use parameters::OptionalResetToken;
+use parameters::PreferredAddress;
 use parameters::ReservedTransportParameter;
+use parameters::ResetToken;
+use parameters::SocketAddrV4;
+use parameters::SocketAddrV6;
 use parameters::TransportParameters;
 use varint::Encoded;
 use varint::VarInt;
@@ -219,4 +225,76 @@ fn put_reserved(x: ReservedTransportParameter, out: &mut [u8]) -> usize
     let n = wide(x.payload_len);
     let at = put_number(x.id, out);
     at + put_value(&payload[..n], &mut out[at..])
+}
+
+fn put_port(port: u16, out: &mut [u8])
+    requires { ⌜ 2 ≤ length (now out) ⌝ }
+    ensures { λ r. ⌜ Wrote 2 (bytesOf 2 port) (now (out .entry)) 2 (now (out .exit)) ⌝ }
+{
+    out[0] = (port / 256) as u8;
+    out[1] = (port % 256) as u8;
+}
+
+fn put_v4(a: SocketAddrV4, out: &mut [u8])
+    requires { ⌜ 6 ≤ length (now out) ⌝ }
+    ensures { λ r. ⌜ Wrote 6 (familyOut (ofV4 a)) (now (out .entry)) 6 (now (out .exit)) ⌝ }
+{
+    let ip = a.ip;
+    put_bytes(&ip, out);
+    put_port(a.port, &mut out[4..]);
+}
+
+fn put_v6(a: SocketAddrV6, out: &mut [u8])
+    requires { ⌜ 18 ≤ length (now out) ⌝ }
+    ensures { λ r. ⌜ Wrote 18 (familyOut (ofV6 a)) (now (out .entry)) 18 (now (out .exit)) ⌝ }
+{
+    let ip = a.ip;
+    put_bytes(&ip, out);
+    put_port(a.port, &mut out[16..]);
+}
+
+// An ID behind its length, and a token.
+fn put_cid_and_token(cid: ConnectionId, token: ResetToken, out: &mut [u8]) -> usize
+    requires { ⌜ (formedCid cid ≡ true) × (37 ≤ length (now out)) ⌝ }
+    ensures { λ r. ⌜ Wrote 37 (cid .len ∷ (cidBytes cid ++ token .bytes)) (now (out .entry)) r (now (out .exit)) ⌝ }
+{
+    let n = wide(cid.len);
+    let id = cid.bytes;
+    let bytes = token.bytes;
+    let at = put_value(&id[..n], out);
+    put_bytes(&bytes, &mut out[at..]);
+    at + ResetToken::SIZE
+}
+
+// The value of the preferred address.
+fn put_address_value(
+    v4: SocketAddrV4,
+    v6: SocketAddrV6,
+    cid: ConnectionId,
+    token: ResetToken,
+    out: &mut [u8],
+) -> usize
+    requires { ⌜ (formedCid cid ≡ true) × (61 ≤ length (now out)) ⌝ }
+    ensures { λ r. ⌜ Wrote 61 (familyOut (ofV4 v4) ++ (familyOut (ofV6 v6) ++ (cid .len ∷ (cidBytes cid ++ token .bytes)))) (now (out .entry)) r (now (out .exit)) ⌝ }
+{
+    put_v4(v4, out);
+    put_v6(v6, &mut out[6..]);
+    24 + put_cid_and_token(cid, token, &mut out[24..])
+}
+
+fn put_address(a: PreferredAddress, out: &mut [u8]) -> usize
+    requires { ⌜ (formedAddress a ≡ true) × (63 ≤ length (now out)) ⌝ }
+    ensures { λ r. ⌜ Wrote 63 (parameterIf 0x0d (addressOut a)) (now (out .entry)) r (now (out .exit)) ⌝ }
+{
+    if !a.present {
+        return 0;
+    }
+    let v4 = a.address_v4;
+    let v6 = a.address_v6;
+    let cid = a.connection_id;
+    let token = a.stateless_reset_token;
+    let n = put_address_value(v4, v6, cid, token, &mut out[2..]);
+    out[0] = 0x0d;
+    out[1] = n as u8;
+    n + 2
 }
