@@ -3,3 +3,5 @@ pub mod Extension
 pub mod Permutations
 pub mod Stored
 pub mod Due
+pub mod Laid
+pub mod Catalogue

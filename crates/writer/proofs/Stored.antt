@@ -2,6 +2,7 @@
 --     front-then      bytes stored behind others, in the part lent for them
 --     wrote-then      one writer after another
 --     wrote-three     and a third
+--     lent-room       the room that is left
 --     wrote-front     a byte stored in front of what a writer left
 --     encoded, never  a number that there is room for is stored, and not refused
 --     short-form      a parameter whose identifier and length are one byte each
@@ -78,6 +79,15 @@ pub wrote-three : (p q r n k j : ℕ) (a b d l m ys zs : List ℕ) → p + q + r
 wrote-three p q r n k j a b d l m ys zs h x y z =
     wrote-as (p + q + r) (n + k + j) (a ++ b ++ d) (a ++ (b ++ d)) l _ (append-assoc a b d)
     (wrote-then (p + q) r (n + k) j (a ++ b) d l (back n m ys) zs h (wrote-then p q n k a b l m ys (omega arith) x y) z)
+
+pub wrote-length : (p n : ℕ) (a l m : List ℕ) → p ≤ length l → Wrote p a l n m → length m ≡ length l
+wrote-length p n a l m h w = let c = w .count in ap length (w .bytes) ∙ length-front a l (omega (arith, w .few))
+
+-- room for others behind
+pub lent-room : (p q n : ℕ) (a l m : List ℕ) → p + q ≤ length l → Wrote p a l n m → q ≤ length (lent n m)
+lent-room p q n a l m h w =
+    let e = wrote-length p n a l m (omega arith) w in
+    rw (rest n m, length-drop n m) (omega (arith, w .few))
 
 pub wrote-none : (p : ℕ) (l : List ℕ) → Wrote p [] l 0 l
 wrote-none p l = record { count = refl; few = omega arith; bytes = sym (front-nil l) }

@@ -1,17 +1,17 @@
 // Writing an extension: `TransportParameters::write` of quinn's transport_parameters.rs.
 ghost use mathlib.Core.Path.{_≡_};
-ghost use mathlib.Core.List.{_∷_, _++_};
+ghost use mathlib.Core.List.{[], _∷_, _++_};
 ghost use mathlib.Core.Bool.{true};
-ghost use Prim.Native.Nat.{_+_, _<_, _≤_};
-ghost use lib.ListN.{length};
+ghost use Prim.Native.Nat.{ℕ, _+_, _<_, _≤_};
+ghost use lib.ListN.{length, getD};
 ghost use Rattle.refusal.specs.Outcome.{front};
 ghost use Rattle.varint.specs.Number.{bound, bytesOf, numberBytes};
 ghost use Rattle.connection_id.specs.ConnectionId.{cidBytes, formedCid};
 ghost use Rattle.parameters.specs.Catalogue.{parameter, parameterIf};
 ghost use Rattle.parameters.specs.Values.{numberOut, optionalOut, flagOut, cidOut, tokenOut, ofV4, ofV6, familyOut, addressOut};
-ghost use Rattle.parameters.specs.Record.{formedOptional, formedOptionalCid, formedAddress, formedReserved};
-ghost use Rattle.writer.specs.Writing.{permutation, reservedBytes};
-ghost use Rattle.writer.specs.Stored.{Wrote};
+ghost use Rattle.parameters.specs.Record.{formedOptional, formedOptionalCid, formedAddress, formedReserved, wellFormed};
+ghost use Rattle.writer.specs.Writing.{permutation, reservedBytes, parameterAt};
+ghost use Rattle.writer.specs.Stored.{Wrote, Laid, each, numberAt};
 use connection_id::ConnectionId;
 use marks::is_marked;
 use marks::with_mark;
@@ -297,4 +297,130 @@ fn put_address(a: PreferredAddress, out: &mut [u8]) -> usize
     out[0] = 0x0d;
     out[1] = n as u8;
     n + 2
+}
+
+// Of places 0 to 10.
+const NUMBER_IDS: [u8; 11] = [
+    0x01,
+    0x03,
+    0x04,
+    0x05,
+    0x06,
+    0x07,
+    0x08,
+    0x09,
+    0x0a,
+    0x0b,
+    0x0e,
+];
+
+const DEFAULTS: [u64; 11] = [0, 65527, 0, 0, 0, 0, 0, 0, 3, 25, 2];
+
+// Each writes the parameters due at some places, for which there is room, and notes where the places after them start.
+fn put_numbers(numbers: &[u64; 11], starts: &mut [usize; 22], out: &mut [u8]) -> usize
+    requires { ⌜ ((p : ℕ) → p < 11 → getD (now numbers) p 0 < bound) × (length (now numbers) ≡ 11) × (length (now starts) ≡ 22) × (110 ≤ length (now out)) ⌝ }
+    ensures { λ r. ⌜ Laid 110 1 0 (each (numberAt (now (numbers .entry))) 11) (now (out .entry)) (now (starts .entry)) r (now (out .exit)) (now (starts .exit)) ⌝ }
+{
+    let ids = NUMBER_IDS;
+    let defaults = DEFAULTS;
+    let mut at: usize = 0;
+    let mut i: usize = 0;
+    while i < 11 {
+        at += put_unless_default(ids[i], defaults[i], numbers[i], &mut out[at..]);
+        i += 1;
+        starts[i] = at;
+    }
+    at
+}
+
+fn put_11_to_13(
+    x: ReservedTransportParameter,
+    t: OptionalResetToken,
+    migration: bool,
+    start: usize,
+    starts: &mut [usize; 22],
+    out: &mut [u8],
+) -> usize
+    requires { ⌜ (formedReserved x ≡ true) × (start ≤ 314) × (length (now starts) ≡ 22) × (45 ≤ length (now out)) ⌝ }
+    ensures { λ r. ⌜ Laid 45 12 start (reservedBytes x ∷ parameterIf 0x02 (tokenOut t) ∷ parameterIf 0x0c (flagOut migration) ∷ []) (now (out .entry)) (now (starts .entry)) r (now (out .exit)) (now (starts .exit)) ⌝ }
+{
+    let a = put_reserved(x, out);
+    let b = a + put_token(t, &mut out[a..]);
+    let end = b + put_flag(0x0c, migration, &mut out[b..]);
+    starts[12] = start + a;
+    starts[13] = start + b;
+    starts[14] = start + end;
+    end
+}
+
+fn put_14_to_16(
+    d: OptionalNumber,
+    p: PreferredAddress,
+    original: OptionalConnectionId,
+    start: usize,
+    starts: &mut [usize; 22],
+    out: &mut [u8],
+) -> usize
+    requires { ⌜ (formedOptional d ≡ true) × (formedAddress p ≡ true) × (formedOptionalCid original ≡ true) × (start ≤ 314) × (length (now starts) ≡ 22) × (95 ≤ length (now out)) ⌝ }
+    ensures { λ r. ⌜ Laid 95 15 start (parameterIf 0x20 (optionalOut d) ∷ parameterIf 0x0d (addressOut p) ∷ parameterIf 0x00 (cidOut original) ∷ []) (now (out .entry)) (now (starts .entry)) r (now (out .exit)) (now (starts .exit)) ⌝ }
+{
+    let a = put_optional(0x20, d, out);
+    let b = a + put_address(p, &mut out[a..]);
+    let end = b + put_cid(0x00, original, &mut out[b..]);
+    starts[15] = start + a;
+    starts[16] = start + b;
+    starts[17] = start + end;
+    end
+}
+
+fn put_17_to_20(
+    initial: OptionalConnectionId,
+    retry: OptionalConnectionId,
+    grease: bool,
+    delay: OptionalNumber,
+    start: usize,
+    starts: &mut [usize; 22],
+    out: &mut [u8],
+) -> usize
+    requires { ⌜ (formedOptionalCid initial ≡ true) × (formedOptionalCid retry ≡ true) × (formedOptional delay ≡ true) × (start ≤ 314) × (length (now starts) ≡ 22) × (64 ≤ length (now out)) ⌝ }
+    ensures { λ r. ⌜ Laid 64 18 start (parameterIf 0x0f (cidOut initial) ∷ parameterIf 0x10 (cidOut retry) ∷ parameterIf 0x2ab2 (flagOut grease) ∷ parameterIf 0xff04de1b (optionalOut delay) ∷ []) (now (out .entry)) (now (starts .entry)) r (now (out .exit)) (now (starts .exit)) ⌝ }
+{
+    let a = put_cid(0x0f, initial, out);
+    let b = a + put_cid(0x10, retry, &mut out[a..]);
+    let e = b + put_grease_quic_bit(grease, &mut out[b..]);
+    let end = e + put_min_ack_delay(delay, &mut out[e..]);
+    starts[18] = start + a;
+    starts[19] = start + b;
+    starts[20] = start + e;
+    starts[21] = start + end;
+    end
+}
+
+// Writes the parameters due in catalogue order, for which there is room, and notes where each place but the first starts.
+fn put_catalogue(r: TransportParameters, starts: &mut [usize; 22], out: &mut [u8]) -> usize
+    requires { ⌜ (wellFormed r ≡ true) × (length (now starts) ≡ 22) × (314 ≤ length (now out)) ⌝ }
+    ensures { λ n. ⌜ Laid 314 1 0 (each (parameterAt r) 21) (now (out .entry)) (now (starts .entry)) n (now (out .exit)) (now (starts .exit)) ⌝ }
+{
+    let numbers = r.numbers;
+    let x = r.grease_transport_parameter;
+    let t = r.stateless_reset_token;
+    let d = r.max_datagram_frame_size;
+    let p = r.preferred_address;
+    let original = r.original_dst_cid;
+    let initial = r.initial_src_cid;
+    let retry = r.retry_src_cid;
+    let delay = r.min_ack_delay;
+    let a = put_numbers(&numbers, starts, out);
+    let b = a + put_11_to_13(x, t, r.disable_active_migration, a, starts, &mut out[a..]);
+    let e = b + put_14_to_16(d, p, original, b, starts, &mut out[b..]);
+    e
+        + put_17_to_20(
+            initial,
+            retry,
+            r.grease_quic_bit,
+            delay,
+            e,
+            starts,
+            &mut out[e..],
+        )
 }
