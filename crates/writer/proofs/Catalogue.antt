@@ -1,5 +1,5 @@
 -- All places, in catalogue order. Assumes nothing.
---     formed          what the writers need of a well-formed record
+--     formed          what writing needs of a well-formed record
 --     laid-13         places 0 to 10, and 11 to 13
 --     laid-16         and 14 to 16
 --     laid-all        and 17 to 20: all places
@@ -17,7 +17,7 @@ use Rattle.varint.specs.Number.{bound}
 use Rattle.parameters.specs.declared.TransportParameters.{TransportParameters}
 use Rattle.parameters.specs.Catalogue.{ids, idAt, defaults, parameterIf}
 use Rattle.parameters.specs.Values.{numberOut, optionalOut, flagOut, cidOut, tokenOut, addressOut, otherValues, valuesOf}
-use Rattle.parameters.specs.Record.{formedOptional, formedOptionalCid, formedAddress, formedReserved, wellFormed}
+use Rattle.parameters.specs.Record.{formedOptional, formedOptionalCid, formedAddress, formedReserved, formedOrder, wellFormed}
 use Rattle.parameters.proofs.Places.{number-lt}
 use Rattle.writer.specs.Writing.{reservedBytes, parameterAt, extension, catalogueOrder}
 use Rattle.writer.specs.Stored.{Laid, joined, endsFrom, each, numberAt}
@@ -34,9 +34,10 @@ pub record Formed (r : TransportParameters) : Type 0 where
   pub initial : formedOptionalCid (r .«initial_src_cid») ≡ true
   pub retry : formedOptionalCid (r .«retry_src_cid») ≡ true
   pub delay : formedOptional (r .«min_ack_delay») ≡ true
+  pub order : length (r .«write_order» .places) ≡ 21
 
 pub formed : (r : TransportParameters) → wellFormed r ≡ true → Formed r
-unfolding wellFormed
+unfolding wellFormed formedOrder
 formed r w =
     record {
       numbers = number-lt r w;
@@ -48,6 +49,7 @@ formed r w =
       initial = all-at _ w 7;
       retry = all-at _ w 8;
       delay = all-at _ w 9;
+      order = eqb-true _ _ (all-at _ (all-at _ w 10) 0);
     }
 
 pub laid-starts : (p k b n : ℕ) (ss : List (List ℕ)) (out st m st₁ : List ℕ) → Laid p k b ss out st n m st₁ → length st ≡ 22 → length st₁ ≡ 22

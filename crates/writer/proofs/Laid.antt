@@ -19,7 +19,7 @@ use Rattle.parameters.proofs.Places.{below-at}
 use Rattle.writer.specs.Stored.{Wrote, Laid, joined, endsFrom, each, numberAt}
 use Rattle.writer.proofs.Stored.{lent, back, wrote-none, wrote-as, wrote-then}
 
-joined-append : (ss ts : List (List ℕ)) → joined (ss ++ ts) ≡ joined ss ++ joined ts
+pub joined-append : (ss ts : List (List ℕ)) → joined (ss ++ ts) ≡ joined ss ++ joined ts
 unfolding joined
 joined-append [] ts = refl
 joined-append (s ∷ ss) ts = ap (λ (l : List ℕ). s ++ l) (joined-append ss ts) ∙ sym (append-assoc s (joined ss) (joined ts))
@@ -31,7 +31,7 @@ ends-append b (s ∷ ss) ts =
     let e : b + length s + length (joined ss) ≡ b + length (s ++ joined ss) = rw (length-append s (joined ss)) (omega arith) in
     ap (λ (l : List ℕ). (b + length s) ∷ l) (ends-append (b + length s) ss ts ∙ ap (λ (n : ℕ). endsFrom (b + length s) ss ++ endsFrom n ts) e)
 
-length-ends : (b : ℕ) (ss : List (List ℕ)) → length (endsFrom b ss) ≡ length ss
+pub length-ends : (b : ℕ) (ss : List (List ℕ)) → length (endsFrom b ss) ≡ length ss
 unfolding endsFrom
 length-ends b [] = refl
 length-ends b (s ∷ ss) = ap suc (length-ends (b + length s) ss)
@@ -79,7 +79,7 @@ number-id i h = sym (List·getD-append numberIds (drop 11 ids) 0 i h)
 pub id-short : (i : ℕ) → i < 11 → getD numberIds i 0 < 64
 id-short i h = ltb-true _ _ (below-at 11 (λ p. ltb (getD numberIds p 0) 64) refl i h)
 
-length-each : (f : ℕ → List ℕ) (n : ℕ) → length (each f n) ≡ n
+pub length-each : (f : ℕ → List ℕ) (n : ℕ) → length (each f n) ≡ n
 unfolding each
 length-each f zero = refl
 length-each f (suc n) = rw (length-append (each f n) (f n ∷ []), length-each f n) (add-one n)

@@ -5,3 +5,5 @@ pub mod Stored
 pub mod Due
 pub mod Laid
 pub mod Catalogue
+pub mod Ordered
+pub mod Answers

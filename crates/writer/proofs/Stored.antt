@@ -84,10 +84,13 @@ pub wrote-length : (p n : ℕ) (a l m : List ℕ) → p ≤ length l → Wrote p
 wrote-length p n a l m h w = let c = w .count in ap length (w .bytes) ∙ length-front a l (omega (arith, w .few))
 
 -- room for others behind
+pub behind : (n at : ℕ) (l : List ℕ) → at + n ≤ length l → n ≤ length (lent at l)
+behind n at l h = rw (rest at l, length-drop at l) (omega arith)
+
 pub lent-room : (p q n : ℕ) (a l m : List ℕ) → p + q ≤ length l → Wrote p a l n m → q ≤ length (lent n m)
 lent-room p q n a l m h w =
     let e = wrote-length p n a l m (omega arith) w in
-    rw (rest n m, length-drop n m) (omega (arith, w .few))
+    behind q n m (omega (arith, w .few))
 
 pub wrote-none : (p : ℕ) (l : List ℕ) → Wrote p [] l 0 l
 wrote-none p l = record { count = refl; few = omega arith; bytes = sym (front-nil l) }

@@ -1,8 +1,8 @@
 -- What the writers of single parameters leave, and of several, one after another.
-use Prim.Native.Nat.{ℕ, zero, suc, _+_, _≤_}
+use Prim.Native.Nat.{ℕ, zero, suc, _+_, _-_, _≤_}
 use mathlib.Core.List.{List, [], _∷_, _++_}
 use mathlib.Core.Path.{_≡_}
-use lib.ListN.{length, getD}
+use lib.ListN.{length, getD, take, drop}
 use lib.Seq.{sets}
 use Rattle.refusal.specs.Outcome.{front}
 use Rattle.parameters.specs.Catalogue.{defaults, idAt, parameterIf}
@@ -37,3 +37,7 @@ each f (suc n) = each f n ++ (f n ∷ [])
 -- what is due at places 0 to 10
 unfoldable pub numberAt : List ℕ → ℕ → List ℕ
 numberAt ns p = parameterIf (idAt p) (numberOut (getD defaults p 0) (getD ns p 0))
+
+-- the parameter at place p, of parts whose places start where the list says
+unfoldable pub partAt : List ℕ → List ℕ → ℕ → List ℕ
+partAt starts parts p = take (getD starts (p + 1) 0 - getD starts p 0) (drop (getD starts p 0) parts)

@@ -4,14 +4,15 @@ ghost use mathlib.Core.List.{[], _∷_, _++_};
 ghost use mathlib.Core.Bool.{true};
 ghost use Prim.Native.Nat.{ℕ, _+_, _<_, _≤_};
 ghost use lib.ListN.{length, getD};
-ghost use Rattle.refusal.specs.Outcome.{front};
+ghost use Rattle.refusal.specs.Outcome.{front, store};
 ghost use Rattle.varint.specs.Number.{bound, bytesOf, numberBytes};
 ghost use Rattle.connection_id.specs.ConnectionId.{cidBytes, formedCid};
 ghost use Rattle.parameters.specs.Catalogue.{parameter, parameterIf};
 ghost use Rattle.parameters.specs.Values.{numberOut, optionalOut, flagOut, cidOut, tokenOut, ofV4, ofV6, familyOut, addressOut};
 ghost use Rattle.parameters.specs.Record.{formedOptional, formedOptionalCid, formedAddress, formedReserved, wellFormed};
-ghost use Rattle.writer.specs.Writing.{permutation, reservedBytes, parameterAt};
-ghost use Rattle.writer.specs.Stored.{Wrote, Laid, each, numberAt};
+ghost use Rattle.writer.specs.Writing.{permutation, reservedBytes, parameterAt, concatOf, extension, catalogueOrder, write};
+ghost use Rattle.writer.specs.Answer.{writeOutcome};
+ghost use Rattle.writer.specs.Stored.{Wrote, Laid, each, numberAt, partAt};
 use connection_id::ConnectionId;
 use marks::is_marked;
 use marks::with_mark;
@@ -24,8 +25,18 @@ use parameters::ResetToken;
 use parameters::SocketAddrV4;
 use parameters::SocketAddrV6;
 use parameters::TransportParameters;
+use refusal::Refusal;
 use varint::Encoded;
 use varint::VarInt;
+
+// What writing gives: how many bytes it stored.
+pub enum Written {
+    Count(usize),
+    Refused(Refusal),
+}
+
+// No extension is longer.
+const MAX_SIZE: usize = 314;
 
 fn wide(x: u8) -> usize
     ensures { λ r. ⌜ r ≡ x ⌝ }
@@ -423,4 +434,72 @@ fn put_catalogue(r: TransportParameters, starts: &mut [usize; 22], out: &mut [u8
             starts,
             &mut out[e..],
         )
+}
+
+// Copies the parameters of `parts` to `out` in an order; that of place p stands from `starts[p]` to `starts[p + 1]`.
+fn put_ordered(order: &[u8; 21], starts: &[usize; 22], parts: &[u8], out: &mut [u8]) -> usize
+    requires { ⌜ ((k : ℕ) → k < 21 → getD (now order) k 0 < 21) × ((p : ℕ) → p < 21 → (getD (now starts) p 0 ≤ getD (now starts) (p + 1) 0) × (getD (now starts) (p + 1) 0 ≤ length (now parts))) × (length (now order) ≡ 21) × (length (now starts) ≡ 22) × (length (concatOf (partAt (now starts) (now parts)) (now order)) ≤ length (now out)) ⌝ }
+    ensures { λ r. ⌜ Wrote (length (now (out .entry))) (concatOf (partAt (now (starts .entry)) (now (parts .entry))) (now (order .entry))) (now (out .entry)) r (now (out .exit)) ⌝ }
+{
+    let mut at: usize = 0;
+    let mut k: usize = 0;
+    while k < TransportParameters::PLACES {
+        let p = wide(order[k]);
+        let from = starts[p];
+        let to = starts[p + 1];
+        put_bytes(&parts[from..to], &mut out[at..]);
+        at += to - from;
+        k += 1;
+    }
+    at
+}
+
+// With an order, the parameters are written in catalogue order first.
+fn write_ordered(r: TransportParameters, order: &[u8; 21], out: &mut [u8]) -> Written
+    requires { ⌜ (wellFormed r ≡ true) × (permutation (now order) ≡ true) ⌝ }
+    ensures { λ w. ⌜ (writeOutcome w, now (out .exit)) ≡ store (extension r (now (order .entry))) (now (out .entry)) ⌝ }
+{
+    let mut starts = [0usize; 22];
+    let mut parts = [0u8; 314];
+    let n = put_catalogue(r, &mut starts, &mut parts);
+    if out.len() < n {
+        return Written::Refused(Refusal::BufferTooShort);
+    }
+    Written::Count(put_ordered(order, &starts, &parts, out))
+}
+
+// In catalogue order they go straight to a buffer that has room for any.
+fn write_unordered(r: TransportParameters, out: &mut [u8]) -> Written
+    requires { ⌜ wellFormed r ≡ true ⌝ }
+    ensures { λ w. ⌜ (writeOutcome w, now (out .exit)) ≡ store (extension r catalogueOrder) (now (out .entry)) ⌝ }
+{
+    let mut starts = [0usize; 22];
+    if MAX_SIZE <= out.len() {
+        return Written::Count(put_catalogue(r, &mut starts, out));
+    }
+    let mut parts = [0u8; 314];
+    let n = put_catalogue(r, &mut starts, &mut parts);
+    if out.len() < n {
+        return Written::Refused(Refusal::BufferTooShort);
+    }
+    put_bytes(&parts[..n], out);
+    Written::Count(n)
+}
+
+// Writes the record to the front of `out`, in its order.
+pub fn write(r: TransportParameters, out: &mut [u8]) -> Written
+    ensures { λ w. ⌜ (writeOutcome w, now (out .exit)) ≡ write r (now (out .entry)) ⌝ }
+{
+    if !r.is_well_formed() {
+        return Written::Refused(Refusal::IllFormed);
+    }
+    let order = r.write_order;
+    if !order.present {
+        return write_unordered(r, out);
+    }
+    let places = order.places;
+    if !is_permutation(&places) {
+        return Written::Refused(Refusal::InvalidOrder);
+    }
+    write_ordered(r, &places, out)
 }
