@@ -68,6 +68,15 @@ reads-back s r out h p l =
     subst (λ a. Accepts a (λ n out′. read s (take n out′) ≡ accepted (bare r))) (sym k)
     (ap (read s) (stored-front (extension r os) out) ∙ read-back s r os h p)
 
+can-be-tidied :
+    (s : Side) (e out : List ℕ) (r : TransportParameters) → Bytes e → read s e ≡ accepted r → length e ≤ length out
+    → Accepts (tidy s e out) (λ n o. read s (take n o) ≡ accepted r)
+can-be-tidied s e out r hb k l =
+    let x = extension r catalogueOrder in
+    let h : length x ≤ length out = omega (arith, shortest s e r hb k) in
+    let t : tidy s e out ≡ (accepted (length x), front x out) = tidied s e out r hb k ∙ store-fits x out h in
+    subst (λ a. Accepts a (λ n o. read s (take n o) ≡ accepted r)) (sym t) (ap (read s) (stored-front x out) ∙ catalogue-back s e r hb k)
+
 same-bytes :
     (s s′ : Side) (e e′ out out′ o o′ : List ℕ) (n n′ : ℕ) (r r′ : TransportParameters) → Bytes e → Bytes e′
     → read s e ≡ accepted r → read s′ e′ ≡ accepted r′ → tidy s e out ≡ (accepted n, o) → tidy s′ e′ out′ ≡ (accepted n′, o′)
@@ -108,4 +117,12 @@ no-shorter :
 no-shorter s s′ e e′ out o n r hb hb′ t k k′ = omega (arith, tidy-stored s e out o n r hb k t .count, shortest s′ e′ r hb′ k′)
 
 pub demand : Demand
-demand = record { readsBack = reads-back; unknownSkipped = unknown-skipped; canonical = same-bytes; stable = tidy-again; shortest = no-shorter }
+demand =
+    record {
+      readsBack = reads-back;
+      unknownSkipped = unknown-skipped;
+      tidies = can-be-tidied;
+      canonical = same-bytes;
+      stable = tidy-again;
+      shortest = no-shorter;
+    }

@@ -1,6 +1,7 @@
 -- Demand 3, in one piece. Reading, writing and tidying an extension belong together:
 --   - what is written of a record that is legal for a side, in the order and with the reserved parameter given, that side reads back;
 --   - whole parameters that are unknown, put in anywhere, change nothing;
+--   - what a side accepts can be tidied, to bytes with the same record;
 --   - two extensions are tidied to the same bytes exactly if they have the same record;
 --   - tidied bytes are tidied to themselves;
 --   - and no extension with the same record is shorter.
@@ -37,6 +38,10 @@ pub record Demand : Type 0 where
       → length (extension r (orderOf (r .«write_order»))) ≤ length out → Accepts (write r out) (λ n out′. read s (take n out′) ≡ accepted (bare r))
   -- the outcome is the same, be it a record or a refusal
   pub unknownSkipped : (s : Side) (ws ws′ : List (List ℕ)) → Inserted ws ws′ → read s (concat ws′) ≡ read s (concat ws)
+  -- what a side accepts is tidied if the buffer is as long as the extension, and the tidied bytes read as the same record
+  pub tidies :
+      (s : Side) (e out : List ℕ) (r : TransportParameters) → Bytes e → read s e ≡ accepted r → length e ≤ length out
+      → Accepts (tidy s e out) (λ n o. read s (take n o) ≡ accepted r)
   -- each extension for a side of its own
   pub canonical :
       (s s′ : Side) (e e′ out out′ o o′ : List ℕ) (n n′ : ℕ) (r r′ : TransportParameters) → Bytes e → Bytes e′
