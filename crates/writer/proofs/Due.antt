@@ -23,9 +23,9 @@ use Rattle.parameters.specs.declared.PreferredAddress.{PreferredAddress}
 use Rattle.parameters.specs.declared.ReservedTransportParameter.{ReservedTransportParameter}
 use Rattle.parameters.specs.Catalogue.{parameter, parameterIf}
 use Rattle.parameters.specs.Values.{numberOut, optionalOut, flagOut, cidOut, tokenOut, Family, ofV4, ofV6, familyOut, addressOut}
-use Rattle.parameters.specs.Record.{formedOptional, formedOptionalCid, formedAddress, formedReserved}
+use Rattle.parameters.specs.Record.{least, formedOptional, formedOptionalCid, formedAddress, formedReserved}
 use Rattle.writer.specs.Writing.{reservedBytes}
-use Rattle.writer.specs.Stored.{Wrote}
+use Rattle.writer.specs.Stored.{isPresent, Wrote}
 use Rattle.writer.proofs.Stored.{wrote-then, short-form, one-byte, number-size}
 
 -- numbers
@@ -37,17 +37,20 @@ pub number-due : (id d x : ℕ) → (x ≡ d → ⊥) → parameterIf id (number
 unfolding numberOut
 number-due id d x n = rw (ne-eqb x d n)
 
-pub optional-absent : (id : ℕ) (o : OptionalNumber) → o ≡ Absent → parameterIf id (optionalOut o) ≡ []
+pub optional-absent : (id : ℕ) (o : OptionalNumber) → isPresent o ≡ false → parameterIf id (optionalOut o) ≡ []
 unfolding optionalOut
-optional-absent id o e = rw e
+optional-absent id Absent e = refl
+optional-absent id (Present x) e = let z : _≡_ {A = ℕ} 0 1 = cc in absurd (omega arith)
 
-pub optional-due : (id x : ℕ) (o : OptionalNumber) → o ≡ Present x → parameterIf id (optionalOut o) ≡ parameter id (numberBytes x)
+pub optional-due : (id x : ℕ) (o : OptionalNumber) → isPresent o ≡ true → x ≡ least o → parameterIf id (optionalOut o) ≡ parameter id (numberBytes x)
 unfolding optionalOut
-optional-due id x o e = rw e
+optional-due id x Absent e f = let z : _≡_ {A = ℕ} 0 1 = cc in absurd (omega arith)
+optional-due id x (Present y) e f = ap (λ (n : ℕ). parameter id (numberBytes n)) (sym f)
 
-pub optional-lt : (x : ℕ) (o : OptionalNumber) → formedOptional o ≡ true → o ≡ Present x → x < bound
+pub optional-lt : (x : ℕ) (o : OptionalNumber) → formedOptional o ≡ true → x ≡ least o → x < bound
 unfolding formedOptional
-optional-lt x o h e = ltb-true x bound (rw e at h)
+optional-lt x Absent h f = omega arith
+optional-lt x (Present y) h f = rw f (ltb-true y bound h)
 
 pub ack-id : numberBytes 0xff04de1b ≡ 0xc0 ∷ 0 ∷ 0 ∷ 0 ∷ 0xff ∷ 0x04 ∷ 0xde ∷ 0x1b ∷ []
 unfolding form tagOf

@@ -3,6 +3,7 @@
 --     ordered-more   one more place
 --     part-is        each part is what is due at its place
 --     ordered        so that together they are the extension in that order
+--     in-order       for which a buffer has room
 use Prim.Native.Nat.{ℕ, zero, suc, _+_, _-_, _≤_, _<_}
 use mathlib.Core.List.{List, [], _∷_, _++_, append-assoc, append-nil}
 use mathlib.Core.Path.{_≡_, refl, ap, ap₂, sym, _∙_}
@@ -19,7 +20,7 @@ use Rattle.refusal.proofs.Laws.{all-at}
 use Rattle.parameters.specs.declared.TransportParameters.{TransportParameters}
 use Rattle.parameters.specs.Catalogue.{places}
 use Rattle.writer.specs.Writing.{concatOf, parameterAt, extension, distinct, permutation}
-use Rattle.writer.specs.Stored.{Wrote, Laid, joined, endsFrom, each, partAt}
+use Rattle.writer.specs.Stored.{Wrote, Laid, joined, endsFrom, each, partAt, InOrder}
 use Rattle.writer.proofs.Orders.{first}
 use Rattle.writer.proofs.Stored.{lent, back, front-then, wrote-as, wrote-length}
 use Rattle.writer.proofs.Laid.{joined-append, length-ends, length-each}
@@ -63,20 +64,18 @@ pub record Part (starts parts out : List ℕ) (p at : ℕ) : Type 0 where
   pub long : getD starts (p + 1) 0 - getD starts p 0 ≡ length (partAt starts parts p)
   pub room : at + length (partAt starts parts p) ≤ length out
 
-pub part-room : (starts parts os out : List ℕ) (k p at : ℕ) → ((k : ℕ) → k < 21 → getD os k 0 < 21)
-    → ((p : ℕ) → p < 21 → (getD starts p 0 ≤ getD starts (p + 1) 0) × (getD starts (p + 1) 0 ≤ length parts)) → length os ≡ 21 → k < 21
-    → length (concatOf (partAt starts parts) os) ≤ length out → at ≡ length (concatOf (partAt starts parts) (take k os)) → p ≡ getD os k 0
-    → Part starts parts out p at
+pub part-room : (starts parts os out : List ℕ) (k p at : ℕ) → InOrder os starts parts out → k < 21 → at ≡ length (concatOf (partAt starts parts) (take k os))
+    → p ≡ getD os k 0 → Part starts parts out p at
 unfolding partAt
-part-room starts parts os out k p at o s n h l c e =
-    let i : p < 21 = rw e (o k h) in
-    let t = s p i in
+part-room starts parts os out k p at o h c e =
+    let i : p < 21 = rw e (o .each-place k h) in
+    let t = o .each-part p i in
     record {
       place = i;
       forward = t .0;
       within = t .1;
       long = sym (length-take-le _ (drop (getD starts p 0) parts) (rw (length-drop (getD starts p 0) parts) (omega arith)));
-      room = rw e (omega (arith, concat-le (partAt starts parts) os k (omega arith)));
+      room = rw e (omega (arith, o .room, concat-le (partAt starts parts) os k (omega (arith, o .long))));
     }
 
 -- WHERE THE PARTS ARE
@@ -124,12 +123,12 @@ noted-from ss h =
     sets-eq (endsFrom 0 ss) (replicate 22 0) 1 (omega arith) ∙ rw (e, append-nil (0 ∷ endsFrom 0 ss))
 
 -- a part is what is due at its place
-pub record Due (f : ℕ → List ℕ) (starts parts : List ℕ) (p : ℕ) : Type 0 where
+record Due (f : ℕ → List ℕ) (starts parts : List ℕ) (p : ℕ) : Type 0 where
   pub forward : getD starts p 0 ≤ getD starts (p + 1) 0
   pub within : getD starts (p + 1) 0 ≤ length parts
   pub same : partAt starts parts p ≡ f p
 
-pub part-is : (f : ℕ → List ℕ) (n : ℕ) (out m st : List ℕ) → 314 ≤ length out → Laid 314 1 0 (each f 21) out (replicate 22 0) n m st → (p : ℕ) → p < 21
+part-is : (f : ℕ → List ℕ) (n : ℕ) (out m st : List ℕ) → 314 ≤ length out → Laid 314 1 0 (each f 21) out (replicate 22 0) n m st → (p : ℕ) → p < 21
     → Due f st m p
 unfolding partAt front
 part-is f n out m st h x p k =
@@ -158,11 +157,11 @@ distinct-places [] d k h = absurd (omega arith)
 distinct-places (p ∷ os) d zero h = first p os d .below
 distinct-places (p ∷ os) d (suc k) h = distinct-places os (first p os d .more) k (omega arith)
 
-pub ordered-length : (os : List ℕ) → permutation os ≡ true → length os ≡ 21
+ordered-length : (os : List ℕ) → permutation os ≡ true → length os ≡ 21
 unfolding permutation
 ordered-length os h = eqb-true _ _ (all-at _ h 0)
 
-pub ordered-place : (os : List ℕ) → permutation os ≡ true → (k : ℕ) → k < 21 → getD os k 0 < 21
+ordered-place : (os : List ℕ) → permutation os ≡ true → (k : ℕ) → k < 21 → getD os k 0 < 21
 unfolding permutation
 ordered-place os h k i = distinct-places os (all-at _ h 1) k (rw (ordered-length os h) i)
 
@@ -171,3 +170,14 @@ pub ordered : (r : TransportParameters) (os : List ℕ) (n : ℕ) (out m st : Li
 unfolding extension
 ordered r os n out m st h l x =
     concat-same (partAt st m) (parameterAt r) os (λ k i. part-is (parameterAt r) n out m st l x (getD os k 0) (ordered-place os h k (rw (ordered-length os h) at i)) .same)
+
+-- with room for the extension
+pub in-order : (r : TransportParameters) (os : List ℕ) (n : ℕ) (scratch m st out : List ℕ) → permutation os ≡ true → 314 ≤ length scratch
+    → Laid 314 1 0 (each (parameterAt r) 21) scratch (replicate 22 0) n m st → length (extension r os) ≤ length out → InOrder os st m out
+in-order r os n scratch m st out h l x k =
+    record {
+      long = ordered-length os h;
+      each-place = ordered-place os h;
+      each-part = λ p i. let d = part-is (parameterAt r) n scratch m st l x p i in (d .forward, d .within);
+      room = rw (ordered r os n scratch m st h l x) k;
+    }

@@ -9,10 +9,10 @@ ghost use Rattle.varint.specs.Number.{bound, bytesOf, numberBytes};
 ghost use Rattle.connection_id.specs.ConnectionId.{cidBytes, formedCid};
 ghost use Rattle.parameters.specs.Catalogue.{parameter, parameterIf};
 ghost use Rattle.parameters.specs.Values.{numberOut, optionalOut, flagOut, cidOut, tokenOut, ofV4, ofV6, familyOut, addressOut};
-ghost use Rattle.parameters.specs.Record.{formedOptional, formedOptionalCid, formedAddress, formedReserved, wellFormed};
+ghost use Rattle.parameters.specs.Record.{least, formedOptional, formedOptionalCid, formedAddress, formedReserved, wellFormed};
 ghost use Rattle.writer.specs.Writing.{permutation, reservedBytes, parameterAt, concatOf, extension, catalogueOrder, write};
 ghost use Rattle.writer.specs.Answer.{writeOutcome};
-ghost use Rattle.writer.specs.Stored.{Wrote, Laid, each, numberAt, partAt};
+ghost use Rattle.writer.specs.Stored.{isPresent, Wrote, Laid, each, numberAt, partAt, InOrder};
 use connection_id::ConnectionId;
 use marks::is_marked;
 use marks::with_mark;
@@ -82,7 +82,8 @@ fn put_bytes(bytes: &[u8], out: &mut [u8])
 // Stores a value behind its length, which is one byte.
 fn put_value(value: &[u8], out: &mut [u8]) -> usize
     requires { ⌜ (length (now value) < 64) × (length (now value) < length (now out)) ⌝ }
-    ensures { λ r. ⌜ Wrote (length (now (value .entry)) + 1) (length (now (value .entry)) ∷ now (value .entry)) (now (out .entry)) r (now (out .exit)) ⌝ }
+    ensures { λ r. ⌜ Wrote (length (now (value .entry)) + 1) (length (now (value .entry)) ∷ now (value .entry))
+        (now (out .entry)) r (now (out .exit)) ⌝ }
 {
     let n = value.len();
     put_bytes(value, &mut out[1..]);
@@ -132,15 +133,34 @@ fn put_unless_default(id: u8, default: u64, x: u64, out: &mut [u8]) -> usize
     put_number_parameter(id, x, out)
 }
 
-// A number, if present: 0 is not the same as absent.
+// 0 is not the same as absent.
+fn is_present(o: OptionalNumber) -> bool
+    ensures { λ r. ⌜ r ≡ isPresent o ⌝ }
+{
+    match o {
+        OptionalNumber::Absent => false,
+        OptionalNumber::Present(_) => true,
+    }
+}
+
+fn value_of(o: OptionalNumber) -> u64
+    ensures { λ r. ⌜ r ≡ least o ⌝ }
+{
+    match o {
+        OptionalNumber::Absent => 0,
+        OptionalNumber::Present(x) => x,
+    }
+}
+
+// A number, if present.
 fn put_optional(id: u8, o: OptionalNumber, out: &mut [u8]) -> usize
     requires { ⌜ (id < 64) × (formedOptional o ≡ true) × (10 ≤ length (now out)) ⌝ }
     ensures { λ r. ⌜ Wrote 10 (parameterIf id (optionalOut o)) (now (out .entry)) r (now (out .exit)) ⌝ }
 {
-    let OptionalNumber::Present(x) = o else {
+    if !is_present(o) {
         return 0;
-    };
-    put_number_parameter(id, x, out)
+    }
+    put_number_parameter(id, value_of(o), out)
 }
 
 // The identifier of min_ack_delay, 0xff04de1b.
@@ -162,11 +182,11 @@ fn put_min_ack_delay(o: OptionalNumber, out: &mut [u8]) -> usize
     requires { ⌜ (formedOptional o ≡ true) × (17 ≤ length (now out)) ⌝ }
     ensures { λ r. ⌜ Wrote 17 (parameterIf 0xff04de1b (optionalOut o)) (now (out .entry)) r (now (out .exit)) ⌝ }
 {
-    let OptionalNumber::Present(x) = o else {
+    if !is_present(o) {
         return 0;
-    };
+    }
     put_min_ack_delay_id(out);
-    8 + put_number_value(x, &mut out[8..])
+    8 + put_number_value(value_of(o), &mut out[8..])
 }
 
 // A parameter without a value, if set.
@@ -286,7 +306,8 @@ fn put_address_value(
     out: &mut [u8],
 ) -> usize
     requires { ⌜ (formedCid cid ≡ true) × (61 ≤ length (now out)) ⌝ }
-    ensures { λ r. ⌜ Wrote 61 (familyOut (ofV4 v4) ++ (familyOut (ofV6 v6) ++ (cid .len ∷ (cidBytes cid ++ token .bytes)))) (now (out .entry)) r (now (out .exit)) ⌝ }
+    ensures { λ r. ⌜ Wrote 61 (familyOut (ofV4 v4) ++ (familyOut (ofV6 v6) ++ (cid .len ∷ (cidBytes cid ++ token .bytes))))
+        (now (out .entry)) r (now (out .exit)) ⌝ }
 {
     put_v4(v4, out);
     put_v6(v6, &mut out[6..]);
@@ -329,8 +350,10 @@ const DEFAULTS: [u64; 11] = [0, 65527, 0, 0, 0, 0, 0, 0, 3, 25, 2];
 
 // Each writes the parameters due at some places, for which there is room, and notes where the places after them start.
 fn put_numbers(numbers: &[u64; 11], starts: &mut [usize; 22], out: &mut [u8]) -> usize
-    requires { ⌜ ((p : ℕ) → p < 11 → getD (now numbers) p 0 < bound) × (length (now numbers) ≡ 11) × (length (now starts) ≡ 22) × (110 ≤ length (now out)) ⌝ }
-    ensures { λ r. ⌜ Laid 110 1 0 (each (numberAt (now (numbers .entry))) 11) (now (out .entry)) (now (starts .entry)) r (now (out .exit)) (now (starts .exit)) ⌝ }
+    requires { ⌜ ((p : ℕ) → p < 11 → getD (now numbers) p 0 < bound) × (length (now numbers) ≡ 11)
+        × (length (now starts) ≡ 22) × (110 ≤ length (now out)) ⌝ }
+    ensures { λ r. ⌜ Laid 110 1 0 (each (numberAt (now (numbers .entry))) 11)
+        (now (out .entry)) (now (starts .entry)) r (now (out .exit)) (now (starts .exit)) ⌝ }
 {
     let ids = NUMBER_IDS;
     let defaults = DEFAULTS;
@@ -353,7 +376,9 @@ fn put_11_to_13(
     out: &mut [u8],
 ) -> usize
     requires { ⌜ (formedReserved x ≡ true) × (start ≤ 314) × (length (now starts) ≡ 22) × (45 ≤ length (now out)) ⌝ }
-    ensures { λ r. ⌜ Laid 45 12 start (reservedBytes x ∷ parameterIf 0x02 (tokenOut t) ∷ parameterIf 0x0c (flagOut migration) ∷ []) (now (out .entry)) (now (starts .entry)) r (now (out .exit)) (now (starts .exit)) ⌝ }
+    ensures { λ r. ⌜ Laid 45 12 start (reservedBytes x ∷ parameterIf 0x02 (tokenOut t)
+        ∷ parameterIf 0x0c (flagOut migration) ∷ [])
+        (now (out .entry)) (now (starts .entry)) r (now (out .exit)) (now (starts .exit)) ⌝ }
 {
     let a = put_reserved(x, out);
     let b = a + put_token(t, &mut out[a..]);
@@ -372,8 +397,11 @@ fn put_14_to_16(
     starts: &mut [usize; 22],
     out: &mut [u8],
 ) -> usize
-    requires { ⌜ (formedOptional d ≡ true) × (formedAddress p ≡ true) × (formedOptionalCid original ≡ true) × (start ≤ 314) × (length (now starts) ≡ 22) × (95 ≤ length (now out)) ⌝ }
-    ensures { λ r. ⌜ Laid 95 15 start (parameterIf 0x20 (optionalOut d) ∷ parameterIf 0x0d (addressOut p) ∷ parameterIf 0x00 (cidOut original) ∷ []) (now (out .entry)) (now (starts .entry)) r (now (out .exit)) (now (starts .exit)) ⌝ }
+    requires { ⌜ (formedOptional d ≡ true) × (formedAddress p ≡ true) × (formedOptionalCid original ≡ true)
+        × (start ≤ 314) × (length (now starts) ≡ 22) × (95 ≤ length (now out)) ⌝ }
+    ensures { λ r. ⌜ Laid 95 15 start (parameterIf 0x20 (optionalOut d) ∷ parameterIf 0x0d (addressOut p)
+        ∷ parameterIf 0x00 (cidOut original) ∷ [])
+        (now (out .entry)) (now (starts .entry)) r (now (out .exit)) (now (starts .exit)) ⌝ }
 {
     let a = put_optional(0x20, d, out);
     let b = a + put_address(p, &mut out[a..]);
@@ -393,8 +421,11 @@ fn put_17_to_20(
     starts: &mut [usize; 22],
     out: &mut [u8],
 ) -> usize
-    requires { ⌜ (formedOptionalCid initial ≡ true) × (formedOptionalCid retry ≡ true) × (formedOptional delay ≡ true) × (start ≤ 314) × (length (now starts) ≡ 22) × (64 ≤ length (now out)) ⌝ }
-    ensures { λ r. ⌜ Laid 64 18 start (parameterIf 0x0f (cidOut initial) ∷ parameterIf 0x10 (cidOut retry) ∷ parameterIf 0x2ab2 (flagOut grease) ∷ parameterIf 0xff04de1b (optionalOut delay) ∷ []) (now (out .entry)) (now (starts .entry)) r (now (out .exit)) (now (starts .exit)) ⌝ }
+    requires { ⌜ (formedOptionalCid initial ≡ true) × (formedOptionalCid retry ≡ true) × (formedOptional delay ≡ true)
+        × (start ≤ 314) × (length (now starts) ≡ 22) × (64 ≤ length (now out)) ⌝ }
+    ensures { λ r. ⌜ Laid 64 18 start (parameterIf 0x0f (cidOut initial) ∷ parameterIf 0x10 (cidOut retry)
+        ∷ parameterIf 0x2ab2 (flagOut grease) ∷ parameterIf 0xff04de1b (optionalOut delay) ∷ [])
+        (now (out .entry)) (now (starts .entry)) r (now (out .exit)) (now (starts .exit)) ⌝ }
 {
     let a = put_cid(0x0f, initial, out);
     let b = a + put_cid(0x10, retry, &mut out[a..]);
@@ -410,7 +441,8 @@ fn put_17_to_20(
 // Writes the parameters due in catalogue order, for which there is room, and notes where each place but the first starts.
 fn put_catalogue(r: TransportParameters, starts: &mut [usize; 22], out: &mut [u8]) -> usize
     requires { ⌜ (wellFormed r ≡ true) × (length (now starts) ≡ 22) × (314 ≤ length (now out)) ⌝ }
-    ensures { λ n. ⌜ Laid 314 1 0 (each (parameterAt r) 21) (now (out .entry)) (now (starts .entry)) n (now (out .exit)) (now (starts .exit)) ⌝ }
+    ensures { λ n. ⌜ Laid 314 1 0 (each (parameterAt r) 21)
+        (now (out .entry)) (now (starts .entry)) n (now (out .exit)) (now (starts .exit)) ⌝ }
 {
     let numbers = r.numbers;
     let x = r.grease_transport_parameter;
@@ -438,8 +470,9 @@ fn put_catalogue(r: TransportParameters, starts: &mut [usize; 22], out: &mut [u8
 
 // Copies the parameters of `parts` to `out` in an order; that of place p stands from `starts[p]` to `starts[p + 1]`.
 fn put_ordered(order: &[u8; 21], starts: &[usize; 22], parts: &[u8], out: &mut [u8]) -> usize
-    requires { ⌜ ((k : ℕ) → k < 21 → getD (now order) k 0 < 21) × ((p : ℕ) → p < 21 → (getD (now starts) p 0 ≤ getD (now starts) (p + 1) 0) × (getD (now starts) (p + 1) 0 ≤ length (now parts))) × (length (now order) ≡ 21) × (length (now starts) ≡ 22) × (length (concatOf (partAt (now starts) (now parts)) (now order)) ≤ length (now out)) ⌝ }
-    ensures { λ r. ⌜ Wrote (length (now (out .entry))) (concatOf (partAt (now (starts .entry)) (now (parts .entry))) (now (order .entry))) (now (out .entry)) r (now (out .exit)) ⌝ }
+    requires { ⌜ InOrder (now order) (now starts) (now parts) (now out) ⌝ }
+    ensures { λ r. ⌜ Wrote (length (now (out .entry))) (concatOf (partAt (now (starts .entry)) (now (parts .entry))) (now (order .entry)))
+        (now (out .entry)) r (now (out .exit)) ⌝ }
 {
     let mut at: usize = 0;
     let mut k: usize = 0;
@@ -461,8 +494,8 @@ fn write_ordered(r: TransportParameters, order: &[u8; 21], out: &mut [u8]) -> Wr
 {
     let mut starts = [0usize; 22];
     let mut parts = [0u8; 314];
-    let n = put_catalogue(r, &mut starts, &mut parts);
-    if out.len() < n {
+    let due = put_catalogue(r, &mut starts, &mut parts);
+    if out.len() < due {
         return Written::Refused(Refusal::BufferTooShort);
     }
     Written::Count(put_ordered(order, &starts, &parts, out))

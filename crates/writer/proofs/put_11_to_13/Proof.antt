@@ -10,52 +10,52 @@ put-reserved-requires : tie.Need-put-reserved-requires
 put-reserved-requires c κs = search needs
 
 sub-put-token : tie.Need-sub-put-token
-sub-put-token c = search needs
+sub-put-token c = omega arith
 
 part-put-token-start : tie.Need-part-put-token-start
-part-put-token-start c = search needs
+part-put-token-start c = omega arith
 
 part-put-token-end : tie.Need-part-put-token-end
-part-put-token-end c = search needs
+part-put-token-end c = omega arith
 
 put-token-requires : tie.Need-put-token-requires
 put-token-requires c κs = search needs
 
 add-b : tie.Need-add-b
-add-b c = search needs
+add-b c = omega arith
 
 sub-put-flag : tie.Need-sub-put-flag
-sub-put-flag c = search needs
+sub-put-flag c = omega arith
 
 part-put-flag-start : tie.Need-part-put-flag-start
-part-put-flag-start c = search needs
+part-put-flag-start c = omega arith
 
 part-put-flag-end : tie.Need-part-put-flag-end
-part-put-flag-end c = search needs
+part-put-flag-end c = omega arith
 
 put-flag-requires : tie.Need-put-flag-requires
 put-flag-requires c κs = search needs
 
 add-end : tie.Need-add-end
-add-end c = search needs
+add-end c = omega arith
 
 add-starts : tie.Need-add-starts
-add-starts c = search needs
+add-starts c = omega arith
 
 element-write-starts : tie.Need-element-write-starts
-element-write-starts c = search needs
+element-write-starts c = omega arith
 
 add-starts-2 : tie.Need-add-starts-2
-add-starts-2 c = search needs
+add-starts-2 c = omega arith
 
 element-write-starts-2 : tie.Need-element-write-starts-2
-element-write-starts-2 c = search needs
+element-write-starts-2 c = omega arith
 
 add-starts-3 : tie.Need-add-starts-3
-add-starts-3 c = search needs
+add-starts-3 c = omega arith
 
 element-write-starts-3 : tie.Need-element-write-starts-3
-element-write-starts-3 c = search needs
+element-write-starts-3 c = omega arith
 
 same-length : tie.Need-same-length
 same-length c = search needs

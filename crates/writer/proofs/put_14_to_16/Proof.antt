@@ -10,52 +10,52 @@ put-optional-requires : tie.Need-put-optional-requires
 put-optional-requires c κs = search needs
 
 sub-put-address : tie.Need-sub-put-address
-sub-put-address c = search needs
+sub-put-address c = omega arith
 
 part-put-address-start : tie.Need-part-put-address-start
-part-put-address-start c = search needs
+part-put-address-start c = omega arith
 
 part-put-address-end : tie.Need-part-put-address-end
-part-put-address-end c = search needs
+part-put-address-end c = omega arith
 
 put-address-requires : tie.Need-put-address-requires
 put-address-requires c κs = search needs
 
 add-b : tie.Need-add-b
-add-b c = search needs
+add-b c = omega arith
 
 sub-put-cid : tie.Need-sub-put-cid
-sub-put-cid c = search needs
+sub-put-cid c = omega arith
 
 part-put-cid-start : tie.Need-part-put-cid-start
-part-put-cid-start c = search needs
+part-put-cid-start c = omega arith
 
 part-put-cid-end : tie.Need-part-put-cid-end
-part-put-cid-end c = search needs
+part-put-cid-end c = omega arith
 
 put-cid-requires : tie.Need-put-cid-requires
 put-cid-requires c κs = search needs
 
 add-end : tie.Need-add-end
-add-end c = search needs
+add-end c = omega arith
 
 add-starts : tie.Need-add-starts
-add-starts c = search needs
+add-starts c = omega arith
 
 element-write-starts : tie.Need-element-write-starts
-element-write-starts c = search needs
+element-write-starts c = omega arith
 
 add-starts-2 : tie.Need-add-starts-2
-add-starts-2 c = search needs
+add-starts-2 c = omega arith
 
 element-write-starts-2 : tie.Need-element-write-starts-2
-element-write-starts-2 c = search needs
+element-write-starts-2 c = omega arith
 
 add-starts-3 : tie.Need-add-starts-3
-add-starts-3 c = search needs
+add-starts-3 c = omega arith
 
 element-write-starts-3 : tie.Need-element-write-starts-3
-element-write-starts-3 c = search needs
+element-write-starts-3 c = omega arith
 
 same-length : tie.Need-same-length
 same-length c = search needs

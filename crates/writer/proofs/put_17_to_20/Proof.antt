@@ -10,73 +10,73 @@ put-cid-requires : tie.Need-put-cid-requires
 put-cid-requires c κs = search needs
 
 sub-put-cid : tie.Need-sub-put-cid
-sub-put-cid c = search needs
+sub-put-cid c = omega arith
 
 part-put-cid-start : tie.Need-part-put-cid-start
-part-put-cid-start c = search needs
+part-put-cid-start c = omega arith
 
 part-put-cid-end : tie.Need-part-put-cid-end
-part-put-cid-end c = search needs
+part-put-cid-end c = omega arith
 
 put-cid-requires-2 : tie.Need-put-cid-requires-2
 put-cid-requires-2 c κs = search needs
 
 add-b : tie.Need-add-b
-add-b c = search needs
+add-b c = omega arith
 
 sub-put-grease-quic-bit : tie.Need-sub-put-grease-quic-bit
-sub-put-grease-quic-bit c = search needs
+sub-put-grease-quic-bit c = omega arith
 
 part-put-grease-quic-bit-start : tie.Need-part-put-grease-quic-bit-start
-part-put-grease-quic-bit-start c = search needs
+part-put-grease-quic-bit-start c = omega arith
 
 part-put-grease-quic-bit-end : tie.Need-part-put-grease-quic-bit-end
-part-put-grease-quic-bit-end c = search needs
+part-put-grease-quic-bit-end c = omega arith
 
 put-grease-quic-bit-requires : tie.Need-put-grease-quic-bit-requires
 put-grease-quic-bit-requires c κs = search needs
 
 add-e : tie.Need-add-e
-add-e c = search needs
+add-e c = omega arith
 
 sub-put-min-ack-delay : tie.Need-sub-put-min-ack-delay
-sub-put-min-ack-delay c = search needs
+sub-put-min-ack-delay c = omega arith
 
 part-put-min-ack-delay-start : tie.Need-part-put-min-ack-delay-start
-part-put-min-ack-delay-start c = search needs
+part-put-min-ack-delay-start c = omega arith
 
 part-put-min-ack-delay-end : tie.Need-part-put-min-ack-delay-end
-part-put-min-ack-delay-end c = search needs
+part-put-min-ack-delay-end c = omega arith
 
 put-min-ack-delay-requires : tie.Need-put-min-ack-delay-requires
 put-min-ack-delay-requires c κs = search needs
 
 add-end : tie.Need-add-end
-add-end c = search needs
+add-end c = omega arith
 
 add-starts : tie.Need-add-starts
-add-starts c = search needs
+add-starts c = omega arith
 
 element-write-starts : tie.Need-element-write-starts
-element-write-starts c = search needs
+element-write-starts c = omega arith
 
 add-starts-2 : tie.Need-add-starts-2
-add-starts-2 c = search needs
+add-starts-2 c = omega arith
 
 element-write-starts-2 : tie.Need-element-write-starts-2
-element-write-starts-2 c = search needs
+element-write-starts-2 c = omega arith
 
 add-starts-3 : tie.Need-add-starts-3
-add-starts-3 c = search needs
+add-starts-3 c = omega arith
 
 element-write-starts-3 : tie.Need-element-write-starts-3
-element-write-starts-3 c = search needs
+element-write-starts-3 c = omega arith
 
 add-starts-4 : tie.Need-add-starts-4
-add-starts-4 c = search needs
+add-starts-4 c = omega arith
 
 element-write-starts-4 : tie.Need-element-write-starts-4
-element-write-starts-4 c = search needs
+element-write-starts-4 c = omega arith
 
 same-length : tie.Need-same-length
 same-length c = search needs

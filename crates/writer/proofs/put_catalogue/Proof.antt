@@ -10,13 +10,13 @@ put-numbers-requires : tie.Need-put-numbers-requires
 put-numbers-requires c κs = let f = formed _ (c .before .before .before .before .before .before .before .before .before .before .before .pre .0) in (f .numbers, f .eleven, c .before .before .before .before .before .before .before .before .before .before .before .pre .1, omega (arith, c .before .before .before .before .before .before .before .before .before .before .before .pre .2))
 
 sub-put-11-to-13 : tie.Need-sub-put-11-to-13
-sub-put-11-to-13 c = search needs
+sub-put-11-to-13 c = omega arith
 
 part-put-11-to-13-start : tie.Need-part-put-11-to-13-start
-part-put-11-to-13-start c = search needs
+part-put-11-to-13-start c = omega arith
 
 part-put-11-to-13-end : tie.Need-part-put-11-to-13-end
-part-put-11-to-13-end c = search needs
+part-put-11-to-13-end c = omega arith
 
 put-11-to-13-requires : tie.Need-put-11-to-13-requires
 put-11-to-13-requires c κs =
@@ -26,16 +26,16 @@ put-11-to-13-requires c κs =
     (f .reserved, omega (arith, x .wrote .few), laid-starts _ _ _ _ _ _ _ _ _ x (s .pre .1), lent-room 110 45 _ _ _ _ (omega (arith, s .pre .2)) (x .wrote))
 
 add-b : tie.Need-add-b
-add-b c = search needs
+add-b c = omega arith
 
 sub-put-14-to-16 : tie.Need-sub-put-14-to-16
-sub-put-14-to-16 c = search needs
+sub-put-14-to-16 c = omega arith
 
 part-put-14-to-16-start : tie.Need-part-put-14-to-16-start
-part-put-14-to-16-start c = search needs
+part-put-14-to-16-start c = omega arith
 
 part-put-14-to-16-end : tie.Need-part-put-14-to-16-end
-part-put-14-to-16-end c = search needs
+part-put-14-to-16-end c = omega arith
 
 put-14-to-16-requires : tie.Need-put-14-to-16-requires
 put-14-to-16-requires c κs =
@@ -47,16 +47,16 @@ put-14-to-16-requires c κs =
     (f .datagram, f .address, f .original, omega (arith, z .wrote .few), laid-starts _ _ _ _ _ _ _ _ _ z (s .pre .1), lent-room 155 95 _ _ _ _ (omega (arith, s .pre .2)) (z .wrote))
 
 add-e : tie.Need-add-e
-add-e c = search needs
+add-e c = omega arith
 
 sub-put-17-to-20 : tie.Need-sub-put-17-to-20
-sub-put-17-to-20 c = search needs
+sub-put-17-to-20 c = omega arith
 
 part-put-17-to-20-start : tie.Need-part-put-17-to-20-start
-part-put-17-to-20-start c = search needs
+part-put-17-to-20-start c = omega arith
 
 part-put-17-to-20-end : tie.Need-part-put-17-to-20-end
-part-put-17-to-20-end c = search needs
+part-put-17-to-20-end c = omega arith
 
 put-17-to-20-requires : tie.Need-put-17-to-20-requires
 put-17-to-20-requires c κs =
@@ -66,7 +66,7 @@ put-17-to-20-requires c κs =
     (f .initial, f .retry, f .delay, omega (arith, z .wrote .few), laid-starts _ _ _ _ _ _ _ _ _ z (s .pre .1), lent-room 250 64 _ _ _ _ (omega (arith, s .pre .2)) (z .wrote))
 
 add-result : tie.Need-add-result
-add-result c = search needs
+add-result c = omega arith
 
 same-length : tie.Need-same-length
 same-length c = search needs

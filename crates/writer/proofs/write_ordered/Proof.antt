@@ -2,9 +2,7 @@
 use native.Mathlib.Omega.{arith}
 use mathlib.Core.Path.{_≡_, refl, ap, sym, _∙_}
 use lib.ListN.{length}
-use Rattle.writer.specs.Writing.{parameterAt}
-use Rattle.writer.proofs.Ordered.{part-is, ordered-length, ordered-place, ordered}
-use Rattle.writer.proofs.Catalogue.{laid-starts}
+use Rattle.writer.proofs.Ordered.{ordered, in-order}
 use Rattle.writer.proofs.Stored.{wrote-as}
 use Rattle.writer.proofs.Answers.{stored-short, stored-whole, catalogue-wrote, any-order}
 use borrow.Author.Needs.{needs}
@@ -32,13 +30,8 @@ put-ordered-requires c κs =
     let r = s .args .r in
     let os = s .args .order .now in
     let x = c .before .before .before .before .before .put-catalogue .ensures in
-    let w = catalogue-wrote r _ _ _ _ _ x in (
-      ordered-place os (s .pre .1),
-      (λ p i. let d = part-is (parameterAt r) _ _ _ _ (omega arith) x p i in (d .forward, d .within)),
-      ordered-length os (s .pre .1),
-      laid-starts _ _ _ _ _ _ _ _ _ x refl,
-      rw (ordered r os _ _ _ _ (s .pre .1) (omega arith) x) (omega (arith, w .count, any-order r os (s .pre .1))),
-    )
+    let w = catalogue-wrote r _ _ _ _ _ x in
+    in-order r os _ _ _ _ (s .args .out .now) (s .pre .1) (omega arith) x (omega (arith, w .count, any-order r os (s .pre .1)))
 
 same-length : tie.Need-same-length
 same-length c = search needs
