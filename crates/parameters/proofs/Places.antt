@@ -30,11 +30,11 @@ use Rattle.parameters.proofs.KindLaws.{Fits, IfSome, Sound}
 use Rattle.parameters.proofs.Address.{address-back, address-sent, address-formed, families-formed, address-short}
 
 -- a test of each place below n
-abbrev below : ℕ → (ℕ → Bool) → Bool
+abbrev pub below : ℕ → (ℕ → Bool) → Bool
 below zero f = true
 below (suc n) f = f n && below n f
 
-below-at : (n : ℕ) (f : ℕ → Bool) → below n f ≡ true → (p : ℕ) → p < n → f p ≡ true
+pub below-at : (n : ℕ) (f : ℕ → Bool) → below n f ≡ true → (p : ℕ) → p < n → f p ≡ true
 below-at zero f h p k = absurd (omega arith)
 below-at (suc n) f h p k = go (f n) refl h (eqb p n) refl (below-at n f)
   where
@@ -159,7 +159,7 @@ module _ (r : TransportParameters) (w : wellFormed r ≡ true) where
   unfolding wellFormed
   eleven = eqb-true _ _ (all-at _ w 0)
 
-  number-lt : (p : ℕ) → p < 11 → getD (r .numbers) p 0 < 2 ^ 62
+  pub number-lt : (p : ℕ) → p < 11 → getD (r .numbers) p 0 < 2 ^ 62
   unfolding wellFormed
   number-lt p h = ltb-true _ _ (every-at _ (r .numbers) (all-at _ w 1) p (omega (arith, eleven)))
 

@@ -581,6 +581,6 @@ pub fn read(side: Side, src: &[u8]) -> Reading
     let mut to = [0usize; 21];
     match scan(src, &mut numbers, &mut from, &mut to) {
         Scanned::Stopped(fault) => refuse(fault),
-        Scanned::Marks(marks) => judge(side, src, marks, &numbers, &from, &to),
+        Scanned::Marks(met) => judge(side, src, met, &numbers, &from, &to),
     }
 }

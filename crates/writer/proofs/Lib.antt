@@ -1,2 +1,9 @@
 pub mod Orders
 pub mod Extension
+pub mod Permutations
+pub mod Stored
+pub mod Due
+pub mod Laid
+pub mod Catalogue
+pub mod Ordered
+pub mod Answers

@@ -16,22 +16,22 @@ use Rattle.reader.proofs.read.Tie as tie
 scanned : (c : tie.After-known-told2) →
     let s = c .before .before .before .before .before .before .before .before .args .src .now in
     let x = c .before .before .before .scan in
-    accepted (spans s (c .before .marks .given .0 .0) (x .last .1 .1 .0) (x .last .1 .1 .1 .0)) ≡ parse noValues s
+    accepted (spans s (c .before .met .given .0 .0) (x .last .1 .1 .0) (x .last .1 .1 .1 .0)) ≡ parse noValues s
 scanned c =
     let s = c .before .before .before .before .before .before .before .before .args .src .now in
     let x = c .before .before .before .scan in
-    sym (ap (λ (r : Scanned). scanOutcome s r (x .last .1 .1 .0) (x .last .1 .1 .1 .0)) (c .before .marks .given .1)) ∙ x .ensures .0
+    sym (ap (λ (r : Scanned). scanOutcome s r (x .last .1 .1 .0) (x .last .1 .1 .1 .0)) (c .before .met .given .1)) ∙ x .ensures .0
 
 received-at : (c : tie.After-known-told2) →
     let s = c .before .before .before .before .before .before .before .before .args .src .now in
     let x = c .before .before .before .scan in
-    Received s (c .before .marks .given .0 .0) (x .last .1 .0) (x .last .1 .1 .0) (x .last .1 .1 .1 .0)
+    Received s (c .before .met .given .0 .0) (x .last .1 .0) (x .last .1 .1 .0) (x .last .1 .1 .1 .0)
 received-at c =
     let b = c .before .before .before .before .before .before .before in
     let s = b .before .args .src .now in
     let x = c .before .before .before .scan in
-    let i = subst (λ (r : Scanned). ScanIndexed s r (x .last .1 .0) (x .last .1 .1 .0) (x .last .1 .1 .1 .0)) (c .before .marks .given .1) (x .ensures .1) in
-    received s (c .before .marks .given .0 .0) (x .last .1 .0) (x .last .1 .1 .0) (x .last .1 .1 .1 .0) (λ k. b .shared-slice-known .given k .fits) i (scanned c)
+    let i = subst (λ (r : Scanned). ScanIndexed s r (x .last .1 .0) (x .last .1 .1 .0) (x .last .1 .1 .1 .0)) (c .before .met .given .1) (x .ensures .1) in
+    received s (c .before .met .given .0 .0) (x .last .1 .0) (x .last .1 .1 .0) (x .last .1 .1 .1 .0) (λ k. b .shared-slice-known .given k .fits) i (scanned c)
 
 scan-requires : tie.Need-scan-requires
 unfolding initialNumbers defaults
@@ -43,8 +43,8 @@ enum-known-fault c = search needs
 refuse-requires : tie.Need-refuse-requires
 refuse-requires c κs = search needs
 
-enum-known-marks : tie.Need-enum-known-marks
-enum-known-marks c = search needs
+enum-known-met : tie.Need-enum-known-met
+enum-known-met c = search needs
 
 judge-requires : tie.Need-judge-requires
 judge-requires c κs = received-at (c .before .before .before)
@@ -66,7 +66,7 @@ read-spec =
     scan-requires
     enum-known-fault
     refuse-requires
-    enum-known-marks
+    enum-known-met
     judge-requires
     returns
     returns-2)

@@ -1,0 +1,16 @@
+-- `building::numbers_of` meets its contract. Assumes nothing.
+use Rattle.parameters.specs.Catalogue.{defaults}
+use Rattle.building.specs.Building.{numbersFrom}
+use borrow.Author.Needs.{needs}
+use Rattle.building.proofs.numbers_of.Statement.{statement}
+use Rattle.building.proofs.numbers_of.Tie as tie
+
+idle-timeout-requires : tie.Need-idle-timeout-requires
+idle-timeout-requires c κs = search needs
+
+returns : tie.Need-returns
+unfolding numbersFrom defaults
+returns c = rw (c .idle-timeout .ensures)
+
+pub numbers-of-spec : {M : Type 1} → statement M
+numbers-of-spec = tie.close (tie.spec idle-timeout-requires returns)

@@ -1,0 +1,63 @@
+-- `building::order_of` meets its contract. The invariant: the first `i` bytes stand over zeros. Assumes nothing.
+use borrow.Author.Needs.{needs}
+use mathlib.Core.Path.{_∙_}
+use mathlib.Core.List.{_++_, append-nil}
+use Rattle.building.specs.Building.{orderFrom}
+use Rattle.connection_id.proofs.Copy.{copied, copied-all}
+use lib.Seq.{paste, paste-zero}
+use lib.ListN.{length, replicate}
+use mathlib.Core.List.{List}
+use mathlib.Core.Path.{_≡_, ap}
+use native.Mathlib.Omega.{arith}
+use Prim.Native.Nat.{ℕ, _≤_, _-_}
+use Rattle.building.proofs.order_of.Statement.{statement}
+use Rattle.building.proofs.order_of.Tie as tie
+
+abbrev Inv-loop : tie.InvT-loop
+Inv-loop order places₀ i₀ places i = (i ≤ length order) × (places ≡ paste (replicate 21 0) 0 order i)
+
+abbrev μ-loop : tie.MeasureT-loop
+μ-loop order places₀ i₀ places i = length order - i
+
+loop-holds : tie.Need-loop-holds Inv-loop μ-loop
+loop-holds c = (omega arith, paste-zero (replicate 21 0) 0 (c .args .order .now))
+
+shared-slice-read-places : tie.Need-shared-slice-read-places Inv-loop μ-loop
+shared-slice-read-places c = omega arith
+
+array-write-places : tie.Need-array-write-places Inv-loop μ-loop
+array-write-places c = omega arith
+
+add-i : tie.Need-add-i Inv-loop μ-loop
+add-i c = omega arith
+
+loop-less : tie.Need-loop-less Inv-loop μ-loop
+loop-less c = omega arith
+
+loop-again : tie.Need-loop-again Inv-loop μ-loop
+loop-again c =
+    let a = c .before .before in
+    (omega arith, copied (replicate 21 0) 0 _ _ (a .loop .i) (a .loop .i) (omega arith) (omega arith) (omega arith) (a .loop .inv .1))
+
+returns : tie.Need-returns Inv-loop μ-loop
+unfolding orderFrom
+returns c =
+    let v = c .before .before .args .order .now in
+    let l = c .before .loop in
+    let n : length v ≡ 21 = search needs in
+    let e : v ++ replicate (21 - length v) 0 ≡ v = simp (n, append-nil) in
+    rw (copied-all 21 v (l .places) (l .i) (omega arith) (l .inv .1) ∙ e)
+
+pub order-of-spec : {M : Type 1} → statement M
+order-of-spec =
+    tie.close
+    (tie.spec
+    Inv-loop
+    μ-loop
+    loop-holds
+    shared-slice-read-places
+    array-write-places
+    add-i
+    loop-less
+    loop-again
+    returns)

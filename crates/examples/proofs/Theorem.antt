@@ -1,0 +1,16 @@
+-- The worked examples hold, each by computation. Assumes nothing.
+use mathlib.Core.Path.{refl}
+use Rattle.refusal.specs.Outcome.{all, front, store}
+use Rattle.varint.specs.Number.{readNumber, form, tagOf}
+use Rattle.connection_id.specs.ConnectionId.{cidOf, formedCid}
+use Rattle.parameters.specs.Catalogue.{ids, defaults, otherKinds, kinds, kindAt, idAt, placeOf, fits, illegal, parameter}
+use Rattle.parameters.specs.Values.{noValues, upd, numberIn, numberOut, optionalIn, optionalOut, flagOut, cidIn, cidOut, tokenIn, tokenOut, familyIn, familyOut, addressIn, addressOut, noReserved, noOrder, recordOf, otherValues, valuesOf}
+use Rattle.parameters.specs.Record.{formedOptional, formedOptionalCid, formedToken, formedOptionalToken, formedFamily, formedAddress, formedReserved, formedOrder, wellFormed, numberRules, presenceRules, valueRules, bare}
+use Rattle.reader.specs.Reading.{faultNumber, mayRepeat, readParameter, receive, step, parse, judge, read}
+use Rattle.writer.specs.Writing.{reservedBytes, parameterAt, extension, permutation, catalogueOrder, orderOf, write}
+use Rattle.tidy.specs.Tidying.{tidy}
+use Rattle.examples.specs.Examples.{Each, with, examples}
+
+pub hold : Each examples
+unfolding all front store readNumber form tagOf cidOf formedCid ids defaults otherKinds kinds kindAt idAt placeOf fits illegal parameter noValues upd numberIn numberOut optionalIn optionalOut flagOut cidIn cidOut tokenIn tokenOut familyIn familyOut addressIn addressOut noReserved noOrder recordOf otherValues valuesOf formedOptional formedOptionalCid formedToken formedOptionalToken formedFamily formedAddress formedReserved formedOrder wellFormed numberRules presenceRules valueRules bare faultNumber mayRepeat readParameter receive step parse judge read reservedBytes parameterAt extension permutation catalogueOrder orderOf write tidy with examples
+hold = (refl, (refl, (refl, (refl, (refl, (refl, (refl, (refl, (refl, (refl, (refl, (refl, (refl, (refl, (refl, (refl, tt))))))))))))))))

@@ -1,0 +1,112 @@
+-- The worked examples (a) to (n): for each a side, an operation, its input and the outcome. The definitions are those that the contracts
+-- of reading, tidying and writing cite.
+use Prim.Native.Nat.{ℕ}
+use mathlib.Core.Path.{_≡_}
+use mathlib.Core.List.{List, [], _∷_}
+use mathlib.Core.Bool.{Bool, true, false}
+use lib.ListN.{length, replicate}
+use Rattle.refusal.specs.Outcome.{Outcome, accepted, refused}
+use Rattle.connection_id.specs.ConnectionId.{cidOf}
+use Rattle.parameters.specs.declared.TransportParameters.{TransportParameters}
+use Rattle.parameters.specs.declared.OptionalNumber.{OptionalNumber}
+use Rattle.parameters.specs.declared.OptionalNumber.the-variants.{Absent, Present}
+use Rattle.parameters.specs.declared.WriteOrder.{WriteOrder}
+use Rattle.parameters.specs.declared.Side.{Side}
+use Rattle.parameters.specs.declared.Side.the-variants.{Client, Server}
+use Rattle.parameters.specs.Values.{noReserved, noOrder, tokenOf, toV4, toV6}
+use Rattle.parameters.specs.Record.{defaultRecord}
+use Rattle.reader.specs.Reading.{read}
+use Rattle.writer.specs.Writing.{write}
+use Rattle.tidy.specs.Tidying.{tidy}
+
+pub data Example : Type 0 where
+  -- an extension that a side reads
+  reading : Side → List ℕ → Outcome TransportParameters → Example
+  -- an extension that a side tidies, and the bytes stored
+  tidying : Side → List ℕ → List ℕ → Example
+  -- a record that is written, and the bytes stored
+  writing : TransportParameters → List ℕ → Example
+
+-- what an example states. The buffers of tidying and writing are exactly long enough
+abbrev pub Holds : Example → Type 0
+Holds (reading s e o) = read s e ≡ o
+Holds (tidying s e t) = tidy s e (replicate (length t) 0) ≡ (accepted (length t), t)
+Holds (writing r t) = write r (replicate (length t) 0) ≡ (accepted (length t), t)
+
+abbrev pub Each : List Example → Type 0
+Each [] = Unit {0}
+Each (x ∷ xs) = Holds x × Each xs
+
+-- a record with these numbers, original_dst_cid empty or absent, grease_quic_bit, min_ack_delay and order, and nothing else
+unfoldable pub with : List ℕ → Bool → Bool → OptionalNumber → WriteOrder → TransportParameters
+with numbers original grease delay order =
+    record {
+      numbers = numbers;
+      «disable_active_migration» = false;
+      «max_datagram_frame_size» = Absent;
+      «initial_src_cid» = record { present = false; cid = cidOf [] };
+      «grease_quic_bit» = grease;
+      «min_ack_delay» = delay;
+      «original_dst_cid» = record { present = original; cid = cidOf [] };
+      «retry_src_cid» = record { present = false; cid = cidOf [] };
+      «stateless_reset_token» = record { present = false; token = tokenOf (replicate 16 0) };
+      «preferred_address» =
+          record {
+            present = false;
+            «address_v4» = toV4 (false, replicate 4 0, 0);
+            «address_v6» = toV6 (false, replicate 16 0, 0);
+            «connection_id» = cidOf [];
+            «stateless_reset_token» = tokenOf (replicate 16 0);
+          };
+      «grease_transport_parameter» = noReserved;
+      «write_order» = order;
+    }
+
+-- idle timeout, payload size and ack delay; the other numbers at their defaults
+abbrev pub numbers : ℕ → ℕ → ℕ → List ℕ
+numbers idle payload delay = idle ∷ payload ∷ 0 ∷ 0 ∷ 0 ∷ 0 ∷ 0 ∷ 0 ∷ 3 ∷ delay ∷ 2 ∷ []
+
+abbrev pub plain : List ℕ → TransportParameters
+plain ns = with ns false false Absent noOrder
+
+abbrev pub reversed : WriteOrder
+reversed =
+    record {
+      present = true;
+      places = 20 ∷ 19 ∷ 18 ∷ 17 ∷ 16 ∷ 15 ∷ 14 ∷ 13 ∷ 12 ∷ 11 ∷ 10 ∷ 9 ∷ 8 ∷ 7 ∷ 6 ∷ 5 ∷ 4 ∷ 3 ∷ 2 ∷ 1 ∷ 0 ∷ [];
+    }
+
+unfoldable pub examples : List Example
+examples =
+    -- (a)
+    reading Client [] (accepted defaultRecord)
+    ∷  -- (b)
+    reading Client (0x01 ∷ 0x04 ∷ 0x80 ∷ 0x00 ∷ 0x75 ∷ 0x30 ∷ []) (accepted (plain (numbers 30000 65527 25)))
+    ∷  -- (c)
+    reading Client (0x0b ∷ 0x02 ∷ 0x7f ∷ 0xff ∷ []) (accepted (plain (numbers 0 65527 16383)))
+    ∷  -- (d)
+    reading Client (0x0b ∷ 0x04 ∷ 0x80 ∷ 0x00 ∷ 0x40 ∷ 0x00 ∷ []) (refused 2)
+    ∷  -- (e)
+    tidying Client (0x0e ∷ 0x01 ∷ 0x02 ∷ []) []
+    ∷  -- (f)
+    reading Client (0x0e ∷ 0x01 ∷ 0x01 ∷ []) (refused 2)
+    ∷  -- (g)
+    reading Client (0x03 ∷ 0x02 ∷ 0x44 ∷ 0xb0 ∷ []) (accepted (plain (numbers 0 1200 25)))
+    ∷  -- (h)
+    reading Client (0x03 ∷ 0x02 ∷ 0x44 ∷ 0xaf ∷ []) (refused 2)
+    ∷  -- (i)
+    reading Client (0x01 ∷ 0x01 ∷ 0x05 ∷ 0x01 ∷ 0x01 ∷ 0x05 ∷ []) (refused 1)
+    ∷  -- (j)
+    reading Client (0x01 ∷ 0x02 ∷ 0x05 ∷ 0x00 ∷ []) (refused 1)
+    ∷  -- (k)
+    reading Client (0x1b ∷ 0x03 ∷ 0xaa ∷ 0xbb ∷ 0xcc ∷ []) (accepted defaultRecord)
+    ∷  -- (l)
+    reading Client (0x00 ∷ 0x00 ∷ []) (accepted (with (numbers 0 65527 25) true false Absent noOrder))
+    ∷ reading Server (0x00 ∷ 0x00 ∷ []) (refused 2)
+    ∷  -- (m)
+    reading Client (0xc0 ∷ 0x00 ∷ 0x00 ∷ 0x00 ∷ 0xff ∷ 0x04 ∷ 0xde ∷ 0x1b ∷ 0x04 ∷ 0x80 ∷ 0x00 ∷ 0x61 ∷ 0xa8 ∷ [])
+    (accepted (with (numbers 0 65527 25) false false (Present 25000) noOrder))
+    ∷ reading Client (0xc0 ∷ 0x00 ∷ 0x00 ∷ 0x00 ∷ 0xff ∷ 0x04 ∷ 0xde ∷ 0x1b ∷ 0x04 ∷ 0x80 ∷ 0x00 ∷ 0x61 ∷ 0xa9 ∷ []) (refused 2)
+    ∷  -- (n)
+    writing (with (numbers 30000 65527 25) false true Absent reversed) (0x6a ∷ 0xb2 ∷ 0x00 ∷ 0x01 ∷ 0x04 ∷ 0x80 ∷ 0x00 ∷ 0x75 ∷ 0x30 ∷ [])
+    ∷ []

@@ -1,0 +1,25 @@
+-- `resumption::size_kept` meets its contract. Assumes nothing.
+use mathlib.Core.Path.{sym}
+use Rattle.resumption.proofs.Laws.{from-none}
+use borrow.Author.Needs.{needs}
+use Rattle.resumption.proofs.size_kept.Statement.{statement}
+use Rattle.resumption.proofs.size_kept.Tie as tie
+
+enum-told : tie.Need-enum-told
+enum-told c = search needs
+
+enum-known-cached : tie.Need-enum-known-cached
+enum-known-cached c = search needs
+
+at-least-requires : tie.Need-at-least-requires
+at-least-requires c κs = search needs
+
+returns : tie.Need-returns
+returns c = from-none _ _ (c .enum-told .given .1)
+
+returns-2 : tie.Need-returns-2
+returns-2 c = rw (c .before .before .cached .given .1) (c .at-least .ensures)
+
+pub size-kept-spec : {M : Type 1} → statement M
+size-kept-spec =
+    tie.close (tie.spec enum-told enum-known-cached at-least-requires returns returns-2)

@@ -1,0 +1,132 @@
+-- `writer::put_ordered` meets its contract. The invariant: the parameters at the first `k` places of the order stand at the front. Assumes nothing.
+use Prim.Native.Nat.{_+_, _-_, _≤_}
+use native.Mathlib.Omega.{arith}
+use mathlib.Core.Path.{_≡_, refl, ap, sym, _∙_}
+use lib.ListN.{length, getD, take, length-take, length-drop}
+use lib.Seq.{take-all}
+use Rattle.writer.specs.Writing.{concatOf}
+use Rattle.writer.specs.Stored.{Wrote, partAt}
+use Rattle.writer.proofs.Stored.{behind, wrote-none, wrote-length}
+use Rattle.writer.proofs.Ordered.{Part, part-room, ordered-more}
+use Rattle.writer.proofs.put_ordered.Statement.{statement}
+use Rattle.writer.proofs.put_ordered.Tie as tie
+
+abbrev Inv-loop : tie.InvT-loop
+Inv-loop order starts parts out₀ at₀ k₀ out at k = (k ≤ 21) × Wrote (length out₀) (concatOf (partAt starts parts) (take k order)) out₀ at out × (length out ≡ length out₀)
+
+abbrev μ-loop : tie.MeasureT-loop
+μ-loop order starts parts out₀ at₀ k₀ out at k = 21 - k
+
+-- the part of this turn
+this : (c : tie.After-wide Inv-loop μ-loop)
+    → Part (c .before .before .before .before .before .before .args .starts .now) (c .before .before .before .before .before .before .args .parts .now) (c .before .before .before .before .before .before .args .out .now) (c .wide .result) (c .before .before .before .loop .at)
+this c =
+    let s = c .before .before .before .before .before .before in
+    let l = c .before .before .before .loop in
+    part-room (s .args .starts .now) (s .args .parts .now) (s .args .order .now) (s .args .out .now) (l .k) _ (l .at) (s .pre .0) (s .pre .1) (s .pre .2) (omega arith) (s .pre .4) (l .inv .1 .count) (c .wide .ensures)
+
+loop-holds : tie.Need-loop-holds Inv-loop μ-loop
+loop-holds c = (omega arith, wrote-none _ _, refl)
+
+element-copy-out-wide : tie.Need-element-copy-out-wide Inv-loop μ-loop
+element-copy-out-wide c = omega arith
+
+wide-requires : tie.Need-wide-requires Inv-loop μ-loop
+wide-requires c κs = tt
+
+mul-from : tie.Need-mul-from Inv-loop μ-loop
+mul-from c = omega (arith, this c .place)
+
+element-copy-out-from : tie.Need-element-copy-out-from Inv-loop μ-loop
+element-copy-out-from c = omega (arith, this c .place)
+
+add-to : tie.Need-add-to Inv-loop μ-loop
+add-to c = omega (arith, this (c .before) .place)
+
+mul-to : tie.Need-mul-to Inv-loop μ-loop
+mul-to c = omega (arith, this (c .before) .place)
+
+element-copy-out-to : tie.Need-element-copy-out-to Inv-loop μ-loop
+element-copy-out-to c = omega (arith, this (c .before) .place)
+
+sub-put-bytes : tie.Need-sub-put-bytes Inv-loop μ-loop
+sub-put-bytes c = this (c .before .before) .forward
+
+part-put-bytes-start : tie.Need-part-put-bytes-start Inv-loop μ-loop
+part-put-bytes-start c = this (c .before .before) .forward
+
+part-put-bytes-end : tie.Need-part-put-bytes-end Inv-loop μ-loop
+part-put-bytes-end c = this (c .before .before) .within
+
+sub-put-bytes-2 : tie.Need-sub-put-bytes-2 Inv-loop μ-loop
+sub-put-bytes-2 c = omega (arith, this (c .before .before .before) .room)
+
+part-put-bytes-start-2 : tie.Need-part-put-bytes-start-2 Inv-loop μ-loop
+part-put-bytes-start-2 c = omega (arith, this (c .before .before .before) .room)
+
+part-put-bytes-end-2 : tie.Need-part-put-bytes-end-2 Inv-loop μ-loop
+part-put-bytes-end-2 c = omega arith
+
+put-bytes-requires : tie.Need-put-bytes-requires Inv-loop μ-loop
+unfolding partAt
+put-bytes-requires c κs = behind _ _ (c .before .before .before .before .before .before .before .loop .out) (omega (arith, this (c .before .before .before .before) .room))
+
+sub-at : tie.Need-sub-at Inv-loop μ-loop
+sub-at c = this (c .before .before .before .before .before .before .before) .forward
+
+add-at : tie.Need-add-at Inv-loop μ-loop
+add-at c = omega (arith, this (c .before .before .before .before .before .before .before) .room, this (c .before .before .before .before .before .before .before) .long)
+
+add-k : tie.Need-add-k Inv-loop μ-loop
+add-k c = omega arith
+
+loop-less : tie.Need-loop-less Inv-loop μ-loop
+loop-less c = omega arith
+
+loop-again : tie.Need-loop-again Inv-loop μ-loop
+unfolding partAt
+loop-again c =
+    let s = c .before .before .before .before .before .before .before .before .before .before .before .before .before in
+    let l = c .before .before .before .before .before .before .before .before .before .before .loop in
+    let t = this (c .before .before .before .before .before .before .before) in
+    let w = ordered-more (partAt (s .args .starts .now) (s .args .parts .now)) (s .args .order .now) (l .k) (omega (arith, s .pre .2)) (c .before .before .before .before .before .before .before .wide .result) (l .at) _ (s .args .out .now) (l .out) _ (s .pre .4) (l .inv .1) (c .before .before .before .before .before .before .before .wide .ensures) (t .long) (c .before .before .put-bytes .ensures) in
+    (omega arith, w, wrote-length _ _ _ _ _ (omega arith) w)
+
+same-length : tie.Need-same-length Inv-loop μ-loop
+same-length c = c .before .loop .inv .2
+
+returns : tie.Need-returns Inv-loop μ-loop
+returns c =
+    let l = c .before .loop in
+    let o = c .before .before .before .before .args .order .now in
+    let e : take (l .k) o ≡ o = take-all (l .k) o (omega (arith, c .before .before .before .before .pre .2)) in
+    rw e at (l .inv .1)
+
+pub put-ordered-spec : {M : Type 1} → statement M
+put-ordered-spec =
+    tie.close
+    (tie.spec
+    Inv-loop
+    μ-loop
+    loop-holds
+    element-copy-out-wide
+    wide-requires
+    mul-from
+    element-copy-out-from
+    add-to
+    mul-to
+    element-copy-out-to
+    sub-put-bytes
+    part-put-bytes-start
+    part-put-bytes-end
+    sub-put-bytes-2
+    part-put-bytes-start-2
+    part-put-bytes-end-2
+    put-bytes-requires
+    sub-at
+    add-at
+    add-k
+    loop-less
+    loop-again
+    same-length
+    returns)

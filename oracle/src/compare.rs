@@ -1,0 +1,117 @@
+//! The run: every case is put to quinn and to the library, and the two answers compared.
+
+use std::time::Instant;
+
+use crate::{
+    answer::{Answer, Case, Op},
+    inputs::{Dice, EDGES},
+    library, rust,
+    suite::Suite,
+};
+
+pub const SEED: u64 = 0x59_75_74_68_70_72_61_6d;
+
+/// How many differences of an operation are shown whole.
+const SHOWN: u64 = 5;
+
+#[derive(Default, Clone, Copy)]
+struct Tally {
+    cases: u64,
+    /// of these, the ones to which the Rust has no answer
+    declined: u64,
+    accepted: u64,
+    differences: u64,
+}
+
+fn hex(b: &[u8]) -> String {
+    b.iter().map(|b| format!("{b:02x}")).collect()
+}
+
+fn show(c: &Case, want: &Answer, got: &library::Called) {
+    println!("{:?}: number {} x {} y {} z {} w {} room {}", c.op, c.number, hex(c.x), hex(c.y), hex(c.z), hex(c.w), c.room);
+    println!("  quinn   {} number {} bytes {}", want.code, want.number, hex(want.due()));
+    println!("  library {} number {} bytes {}", got.code, got.number, hex(&got.output[..c.room]));
+}
+
+/// A difference planted on the library's side: in `read`, as if 20, the largest ack_delay_exponent, were 19; in each other operation, one
+/// bit of one answer, that of the 100th call that was accepted (the first of `default`, which has few).
+fn plant(c: &Case, nth: u64, got: &mut library::Called) {
+    let now = nth == if c.op == Op::Default { 1 } else { 100 };
+    match c.op {
+        _ if got.code != 0 => {}
+        Op::Read if got.output[64..72] == 20u64.to_be_bytes() => *got = library::refused(2),
+        Op::Read => {}
+        _ if !now => {}
+        Op::NumberSize | Op::Issue => got.number ^= 1,
+        Op::Resume | Op::Check | Op::CheckOrder => got.code ^= 1,
+        _ => got.output[0] ^= 1,
+    }
+}
+
+/// Every case of the documented run.
+fn all(s: &mut Suite) {
+    s.default();
+    s.shown();
+    s.numbers(100_000);
+    s.cids(200);
+    s.forms(&EDGES);
+    s.edges();
+    s.edge_pairs();
+    s.sequences(3);
+    s.subsets(1);
+    s.generated(1_000_000);
+    s.damaged(2_000, 1);
+    s.random(3_000);
+    s.records(1_000_000);
+    s.record_edges();
+    s.orders(100_000);
+    s.building(1_000_000);
+    s.building_refused(100_000);
+    s.resumption(500_000);
+    s.declined(50_000);
+    s.numbers_short(3);
+    s.short(3);
+}
+
+pub fn compare(planted: bool) {
+    let start = Instant::now();
+    let mut tallies = [Tally::default(); Op::ALL.len()];
+    let mut sink = |c: &Case| {
+        let want = rust::answer(c);
+        let mut got = library::call(c);
+        let t = &mut tallies[c.op as usize];
+        t.cases += 1;
+        t.declined += (c.declined != 0) as u64;
+        t.accepted += (want.code == 0) as u64;
+        if planted {
+            plant(c, t.accepted, &mut got);
+        }
+        if !got.is(&want, c.room) {
+            t.differences += 1;
+            if t.differences <= SHOWN && !planted {
+                show(c, &want, &got);
+            }
+        }
+    };
+    let mut suite = Suite { d: Dice(SEED), sink: &mut sink };
+    all(&mut suite);
+
+    println!("{:<14}{:>12}{:>12}{:>22}{:>13}", "operation", "cases", "accepted", "outside the Rust's", "differences");
+    let mut sum = Tally::default();
+    for ((_, name), t) in Op::ALL.iter().zip(tallies) {
+        println!("{name:<14}{:>12}{:>12}{:>22}{:>13}", t.cases, t.accepted, t.declined, t.differences);
+        sum.cases += t.cases;
+        sum.accepted += t.accepted;
+        sum.declined += t.declined;
+        sum.differences += t.differences;
+    }
+    println!("{:<14}{:>12}{:>12}{:>22}{:>13}", "all", sum.cases, sum.accepted, sum.declined, sum.differences);
+    println!("seed {SEED:#x}, {:.1} seconds", start.elapsed().as_secs_f64());
+    let found = tallies.iter().filter(|t| t.differences > 0).count();
+    if planted {
+        println!("a planted difference was found in {found} of {} operations", tallies.len());
+    }
+    if found != if planted { tallies.len() } else { 0 } {
+        std::process::exit(1);
+    }
+}

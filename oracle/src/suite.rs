@@ -1,0 +1,556 @@
+//! The cases. Each function gives them to a sink, which compares or records them; `n` says how many of the random ones.
+
+use crate::{
+    VarInt,
+    answer::{Case, MOST, Op},
+    image::{self, RECORD},
+    inputs::{self, Dice, EDGES, KNOWN, MAX, NUMBERS},
+    rust,
+    transport_parameters::TransportParameters,
+};
+
+pub struct Suite<'a> {
+    pub d: Dice,
+    pub sink: &'a mut dyn FnMut(&Case),
+}
+
+impl Suite<'_> {
+    pub fn case(&mut self, op: Op, number: u64, x: &[u8], room: usize) {
+        (self.sink)(&Case::new(op, number, x, room));
+    }
+
+    /// The case with room for the bytes due exactly, for one fewer, for one more, and with the most and the least room.
+    fn rooms(&mut self, op: Op, number: u64, x: &[u8]) {
+        let due = rust::answer(&Case::new(op, number, x, MOST)).len;
+        for room in [due, due.saturating_sub(1), due + 1, MOST, 0] {
+            self.case(op, number, x, room);
+        }
+    }
+
+    /// 0 for a client, else a server.
+    fn side(&mut self) -> u64 {
+        self.d.of(&[0, 0, 0, 1, 1, 255])
+    }
+
+    // Numbers
+
+    /// Every byte string of up to `most` bytes, read as a number.
+    pub fn numbers_short(&mut self, most: usize) {
+        every(most, |x| self.case(Op::NumberRead, 0, x, 8));
+    }
+
+    pub fn numbers(&mut self, n: usize) {
+        let powers = (0..64).map(|bit| 1u64 << bit);
+        let edges = powers.flat_map(|p| [p - 1, p, p + 1]).chain(EDGES).chain([u64::MAX]);
+        let random: Vec<u64> = (0..n).map(|_| self.d.next() >> self.d.below(64)).collect();
+        for x in edges.chain(random) {
+            for room in 0..10 {
+                self.case(Op::NumberWrite, x, &[], room);
+            }
+            if x <= MAX {
+                self.case(Op::NumberSize, x, &[], 0);
+                for form in 0..4 {
+                    let mut bytes = Vec::new();
+                    inputs::put_number(&mut bytes, x, form);
+                    for cut in 0..=bytes.len() {
+                        self.case(Op::NumberRead, 0, &bytes[..cut], 8);
+                    }
+                    bytes.extend(self.d.bytes::<3>());
+                    self.case(Op::NumberRead, 0, &bytes, 8);
+                }
+            }
+        }
+    }
+
+    // Connection IDs
+
+    pub fn cids(&mut self, n: usize) {
+        for _ in 0..n {
+            for len in 0..=255 {
+                let mut x = self.d.bytes::<64>();
+                x[0] = len as u8;
+                for total in [0, 1, len, len + 1, len + 2, 64] {
+                    let room = self.d.of(&[21, 21, 20, 0, 22]);
+                    self.case(Op::CidRead, 0, &x[..total.min(64)], room);
+                }
+                let mut cid = [0; image::CID];
+                cid.copy_from_slice(&x[..21]);
+                if len <= 20 {
+                    cid[len + 1..].fill(0);
+                    for room in 0..24 {
+                        self.case(Op::CidWrite, 0, &cid, room);
+                    }
+                }
+                // too long; a byte after the ID; another length of image
+                let room = self.d.below(24);
+                let mut bad = cid;
+                if len < 20 {
+                    bad[len + 1 + self.d.below(20 - len)] |= 1 << self.d.below(8);
+                }
+                if len != 20 {
+                    (self.sink)(&Case::new(Op::CidWrite, 0, &bad, room).declined(7));
+                }
+                (self.sink)(&Case::new(Op::CidWrite, 0, &x[..self.d.below(21)], room).declined(7));
+                (self.sink)(&Case::new(Op::CidWrite, 0, &x[..self.d.below(42) + 22], room).declined(7));
+            }
+        }
+    }
+
+    // Extensions
+
+    /// Read and tidied, by both sides, with enough room or not.
+    pub fn extension(&mut self, x: &[u8]) {
+        for side in [0, 1] {
+            self.extension_by(side, x);
+        }
+    }
+
+    pub fn extension_by(&mut self, side: u64, x: &[u8]) {
+        let room = if self.d.one_in(16) { self.d.of(&[0, 1, 302, 304, MOST]) } else { RECORD };
+        self.case(Op::Read, side, x, room);
+        let room = if self.d.one_in(4) { self.d.below(x.len().min(400) + 1) } else { MOST };
+        self.case(Op::Tidy, side, x, room);
+        if self.d.one_in(8) {
+            self.case(Op::TidyTwice, side, x, MOST);
+        }
+    }
+
+    /// Every byte string of up to `most` bytes, by both sides.
+    pub fn short(&mut self, most: usize) {
+        every(most, |x| {
+            for side in [0, 1] {
+                self.case(Op::Read, side, x, RECORD);
+                self.case(Op::Tidy, side, x, MOST);
+            }
+        });
+    }
+
+    /// Every `step`th set of the known parameters.
+    pub fn subsets(&mut self, step: usize) {
+        for mask in (0..1 << 20).step_by(step) {
+            let x = inputs::extension(&mut self.d, mask);
+            self.extension(&x);
+        }
+    }
+
+    /// Every form of identifier, length and value of each number, at each edge.
+    pub fn forms(&mut self, edges: &[u64]) {
+        for id in &KNOWN[..NUMBERS] {
+            for edge in edges {
+                for forms in 0..64 {
+                    let (mut value, mut x) = (Vec::new(), Vec::new());
+                    inputs::put_number(&mut value, *edge, forms / 16);
+                    inputs::put_number(&mut x, *id, forms / 4 % 4);
+                    inputs::put_number(&mut x, value.len() as u64, forms % 4);
+                    x.extend(value);
+                    self.extension(&x);
+                }
+            }
+        }
+    }
+
+    /// Each number at each edge, in the shortest form.
+    pub fn edges(&mut self) {
+        for id in &KNOWN[..NUMBERS] {
+            for edge in EDGES {
+                let x = inputs::numbers_of(&[(*id, edge)]);
+                self.extension(&x);
+            }
+        }
+    }
+
+    /// Each two numbers, each at each edge: the rules together. max_ack_delay with min_ack_delay around 1,000 times it.
+    pub fn edge_pairs(&mut self) {
+        for (i, a) in KNOWN[..NUMBERS].iter().enumerate() {
+            for b in &KNOWN[..i] {
+                for (x, y) in EDGES.iter().flat_map(|x| EDGES.map(|y| (*x, y))) {
+                    let x = inputs::numbers_of(&[(*a, x), (*b, y)]);
+                    self.extension(&x);
+                }
+            }
+        }
+        for ms in 0..=16385 {
+            self.delays(ms);
+        }
+    }
+
+    pub fn delays(&mut self, ms: u64) {
+        for us in [(1000 * ms).saturating_sub(1), 1000 * ms, 1000 * ms + 1] {
+            let x = inputs::numbers_of(&[(0xff04de1b, us), (0x0b, ms)]);
+            self.extension(&x);
+        }
+    }
+
+    /// Every sequence of up to `most` parameters, known, reserved or unknown: every order, and second and third copies.
+    pub fn sequences(&mut self, most: u32) {
+        let ids: Vec<u64> = KNOWN.into_iter().chain([0x1b, 0x11]).collect();
+        for len in 1..=most {
+            for i in 0..ids.len().pow(len) {
+                let mut x = Vec::new();
+                for k in 0..len {
+                    let id = ids[i / ids.len().pow(k) % ids.len()];
+                    let v = inputs::value(&mut self.d, id);
+                    inputs::put_parameter(&mut self.d, &mut x, id, &v);
+                }
+                self.extension(&x);
+            }
+        }
+    }
+
+    pub fn generated(&mut self, n: usize) {
+        for i in 0..n {
+            let mask = inputs::mask(&mut self.d);
+            let x = inputs::extension(&mut self.d, mask);
+            self.extension(&x);
+            if i % 8 == 0 {
+                self.rooms(Op::Tidy, 0, &x);
+            }
+        }
+    }
+
+    /// Good extensions, each damaged in every way: every bit of every byte flipped, every byte changed, dropped or doubled, a byte put in
+    /// at every place, cut at every length. Every `step`th of these, by one side or the other.
+    pub fn damaged(&mut self, n: usize, step: usize) {
+        for _ in 0..n {
+            let x = self.good();
+            let mut turn = 0;
+            let mut damage = |this: &mut Self, y: &[u8]| {
+                turn += 1;
+                if turn % step == 0 {
+                    let side = this.side();
+                    this.extension_by(side, y);
+                }
+            };
+            let mut y = x.clone();
+            for at in 0..x.len() {
+                for bit in 0..8 {
+                    y[at] = x[at] ^ 1 << bit;
+                    damage(self, &y);
+                }
+                for byte in [0, 255, self.d.next() as u8] {
+                    y[at] = byte;
+                    damage(self, &y);
+                }
+                y[at] = x[at];
+                damage(self, &x[..at]);
+                damage(self, &[&x[..at], &x[at + 1..]].concat());
+                damage(self, &[&x[..at], &x[at..=at], &x[at..]].concat());
+                for byte in [0, self.d.next() as u8] {
+                    damage(self, &[&x[..at], &[byte], &x[at..]].concat());
+                }
+            }
+            for byte in [0, 1, self.d.next() as u8] {
+                damage(self, &[&x[..], &[byte]].concat());
+            }
+        }
+    }
+
+    /// An extension that a client accepts: a legal record, written, with unknown parameters at its ends.
+    fn good(&mut self) -> Vec<u8> {
+        loop {
+            let mut x = Vec::new();
+            if self.d.one_in(2) {
+                inputs::record(&mut self.d, true).write(&mut x);
+            } else {
+                let mask = inputs::mask(&mut self.d);
+                x = inputs::extension(&mut self.d, mask);
+            }
+            if TransportParameters::read(rust::side(0), &mut &x[..]).is_ok() {
+                return x;
+            }
+        }
+    }
+
+    /// Random bytes of every length to 400: any, small ones, and runs of parameters with a random tail.
+    pub fn random(&mut self, n: usize) {
+        for len in 0..=400 {
+            for i in 0..n {
+                let mut x: Vec<u8> = (0..len).map(|_| self.d.next() as u8).collect();
+                match i % 3 {
+                    0 => x.iter_mut().for_each(|b| *b &= 0x1f),
+                    1 => {
+                        let mask = inputs::mask(&mut self.d);
+                        let y = inputs::extension(&mut self.d, mask);
+                        let keep = self.d.below(len + 1).min(y.len());
+                        x[..keep].copy_from_slice(&y[..keep]);
+                    }
+                    _ => {}
+                }
+                let side = self.side();
+                self.extension_by(side, &x);
+            }
+        }
+    }
+
+    /// The worked examples of document 01 and the inputs that docs/DIFFERENCES.md shows.
+    pub fn shown(&mut self) {
+        let address = |families: u8, id_len: u8, more: &str| {
+            let id = "aa".repeat(id_len as usize);
+            format!(
+                "0d{:02x}{}{id_len:02x}{id}{}{more}",
+                41 + id_len as usize + more.len() / 2,
+                format!("{families:02x}").repeat(24),
+                "bb".repeat(16)
+            )
+        };
+        for x in [
+            "",
+            "010480007530",
+            "0b027fff",
+            "0b0480004000",
+            "0e0102",
+            "0e0101",
+            "030244b0",
+            "030244af",
+            "010105010105",
+            "01020500",
+            "1b03aabbcc",
+            "0000",
+            "c0000000ff04de1b04800061a8",
+            "c0000000ff04de1b04800061a9",
+            "6ab200010480007530",
+            // second copies that are accepted: grease_quic_bit, min_ack_delay, unknown ones
+            "6ab2006ab200",
+            "c0000000ff04de1b0105c0000000ff04de1b0106",
+            "c0000000ff04de1b0106c0000000ff04de1b0105",
+            "1b001b00",
+            // addresses: no family; no family and a byte more; no family after a good one; an empty ID; beside an empty initial_src_cid
+            &address(0, 1, ""),
+            &address(0, 1, "00"),
+            &(address(1, 1, "") + &address(0, 1, "")),
+            &address(1, 0, ""),
+            &format!("0f00{}", address(1, 1, "")),
+            // an illegal value before a fault
+            "0a011501",
+            // an ID that no client's first packet may have as destination
+            "0001aa",
+        ] {
+            let x: Vec<u8> = (0..x.len()).step_by(2).map(|i| u8::from_str_radix(&x[i..i + 2], 16).unwrap()).collect();
+            self.extension(&x);
+        }
+    }
+
+    // Records
+
+    /// A record written, checked for both sides, asked for its issue limit.
+    fn record(&mut self, p: &TransportParameters) {
+        let x = image::of_record(p);
+        let room = if self.d.one_in(4) { self.d.below(316) } else { MOST };
+        self.case(Op::Write, 0, &x, room);
+        self.case(Op::Check, 0, &x, 0);
+        self.case(Op::Check, 1, &x, 0);
+        self.case(Op::Issue, 0, &x, 0);
+    }
+
+    pub fn records(&mut self, n: usize) {
+        for i in 0..n {
+            let legal = self.d.one_in(2);
+            let p = inputs::record(&mut self.d, legal);
+            self.record(&p);
+            if i % 8 == 0 {
+                self.rooms(Op::Write, 0, &image::of_record(&p));
+            }
+        }
+    }
+
+    /// The default record with one number, or the two delays, at each edge.
+    pub fn record_edges(&mut self) {
+        for place in 0..11 {
+            for edge in EDGES {
+                let mut p = TransportParameters::default();
+                *image::numbers(&mut p)[place] = VarInt(edge);
+                self.record(&p);
+            }
+        }
+        for (ms, us) in EDGES.iter().flat_map(|x| EDGES.map(|y| (*x, y))) {
+            let mut p = TransportParameters::default();
+            p.max_ack_delay = VarInt(ms);
+            p.min_ack_delay = Some(VarInt(us));
+            self.record(&p);
+        }
+    }
+
+    /// One record that has everything, in many orders: rotations, swaps of two places, random ones.
+    pub fn orders(&mut self, n: usize) {
+        let p = loop {
+            let p = inputs::record(&mut self.d, true);
+            let x = image::of_record(&p);
+            if [88, 89, 90, 99, 108, 130, 152, 174, 191, 255].iter().all(|at| x[*at] == 1) {
+                break p;
+            }
+        };
+        let mut orders = vec![image::CATALOGUE_ORDER; 21 + 210 + n];
+        for (i, order) in orders.iter_mut().enumerate() {
+            match i {
+                0..21 => order.rotate_left(i),
+                21..231 => {
+                    let pair = (0..21).flat_map(|a| (0..a).map(move |b| (a, b))).nth(i - 21).unwrap();
+                    order.swap(pair.0, pair.1)
+                }
+                231 => order.reverse(),
+                _ => *order = self.d.permutation(),
+            }
+        }
+        for order in orders {
+            self.case(Op::CheckOrder, 0, &order, 0);
+            let p = TransportParameters { write_order: Some(order), ..p };
+            self.case(Op::Write, 0, &image::of_record(&p), MOST);
+        }
+    }
+
+    pub fn default(&mut self) {
+        for room in [RECORD, RECORD - 1, RECORD + 1, 0] {
+            self.case(Op::Default, 0, &[], room);
+        }
+    }
+
+    // Building
+
+    pub fn building(&mut self, n: usize) {
+        for _ in 0..n {
+            let plan = inputs::Plan::new(&mut self.d);
+            self.build(&plan, 0);
+        }
+    }
+
+    fn build(&mut self, p: &inputs::Plan, declined: u8) {
+        let x = p.settings.map(u64::to_be_bytes).concat();
+        let x = &x[..8 * p.settings_len];
+        (self.sink)(&Case { y: &p.cid, z: &p.payload, w: &p.order, ..Case::new(Op::New, p.draw, x, p.room) }.declined(declined));
+    }
+
+    /// Every refusal, alone and before those that come later.
+    pub fn building_refused(&mut self, n: usize) {
+        for i in 0..n {
+            let mut p = inputs::Plan::new(&mut self.d);
+            let d = &mut self.d;
+            let faults = [d.one_in(2), d.one_in(2), d.one_in(2), d.one_in(2)];
+            // the first fault is that of `kind`, and some of the later ones are there too
+            let kind = i % 4;
+            let has = |k: usize| k == kind || k > kind && faults[k];
+            if has(0) {
+                p.settings[d.below(6)] = d.of(&[1 << 62, (1 << 62) + 1, 1 << 63, u64::MAX]);
+            }
+            if has(1) {
+                match d.below(3) {
+                    0 => p.cid = vec![0; d.of(&[0, 20, 22])],
+                    1 => p.cid[0] = 21 + d.below(235) as u8,
+                    _ => {
+                        p.cid = vec![0; 21];
+                        p.cid[0] = d.below(20) as u8;
+                        p.cid[20] = 1;
+                    }
+                }
+            }
+            if has(2) {
+                match d.below(2) {
+                    0 => p.draw = d.of(&[MAX - 26, MAX - 25, MAX, 1 << 62, u64::MAX]),
+                    _ => p.payload = vec![1; 16 + d.below(30)],
+                }
+            }
+            if has(3) {
+                match d.below(4) {
+                    0 => p.order[d.below(21)] = 21 + d.below(235) as u8,
+                    1 => p.order[0] = p.order[1 + d.below(20)],
+                    2 => p.order.truncate(d.below(21)),
+                    _ => p.order.push(d.below(22) as u8),
+                }
+            }
+            self.build(&p, [4, 7, 9, 6][kind]);
+            p.settings_len = 11;
+            self.build(&p, 7);
+        }
+    }
+
+    // Resumption
+
+    /// A record and one that differs from it in one field, or in any; both ways round.
+    pub fn resumption(&mut self, n: usize) {
+        let sizes = [None, Some(0), Some(1), Some(65535), Some(MAX)];
+        for i in 0..n {
+            let legal = self.d.one_in(2);
+            let p = inputs::record(&mut self.d, legal);
+            let mut q = inputs::record(&mut self.d, legal);
+            if i % 4 != 0 {
+                q = p;
+                let fields = image::numbers(&mut q);
+                match i / 4 % 14 {
+                    k @ 0..11 => {
+                        let x = fields.into_iter().nth(k).unwrap();
+                        let other = self.d.number();
+                        x.0 = self.d.of(&[x.0.saturating_sub(1), (x.0 + 1).min(MAX), other]);
+                    }
+                    11 => q.max_datagram_frame_size = self.d.of(&sizes).map(VarInt),
+                    12 => q.grease_quic_bit = !q.grease_quic_bit,
+                    _ => {
+                        // the limits stay, all else differs
+                        q = inputs::record(&mut self.d, true);
+                        for (x, y) in image::numbers(&mut q).into_iter().zip(image::numbers(&mut p.clone())) {
+                            *x = *y;
+                        }
+                        q.max_datagram_frame_size = p.max_datagram_frame_size;
+                        q.grease_quic_bit = p.grease_quic_bit;
+                    }
+                }
+            }
+            let (x, y) = (image::of_record(&p), image::of_record(&q));
+            (self.sink)(&Case { y: &y, ..Case::new(Op::Resume, 0, &x, 0) });
+            (self.sink)(&Case { y: &x, ..Case::new(Op::Resume, 0, &y, 0) });
+        }
+        for (a, b) in sizes.iter().flat_map(|a| sizes.map(|b| (*a, b))) {
+            let image = |s: Option<u64>| {
+                image::of_record(&TransportParameters { max_datagram_frame_size: s.map(VarInt), ..TransportParameters::default() })
+            };
+            (self.sink)(&Case { y: &image(b), ..Case::new(Op::Resume, 0, &image(a), 0) });
+        }
+    }
+
+    // Calls that are declined because of a record or an order: the Rust has no such record
+
+    pub fn declined(&mut self, n: usize) {
+        for i in 0..n {
+            let legal = self.d.one_in(2);
+            let good = image::of_record(&inputs::record(&mut self.d, legal));
+            let mut bad = good;
+            inputs::spoil(&mut self.d, i, &mut bad);
+            let room = self.d.of(&[0, 100, MOST]);
+            let cut = &good[..self.d.below(RECORD)];
+            let long = [&good[..], &[0]].concat();
+            for x in [&bad[..], cut, &long] {
+                (self.sink)(&Case::new(Op::Write, 0, x, room).declined(7));
+                let side = self.side();
+                (self.sink)(&Case::new(Op::Check, side, x, 0).declined(7));
+                (self.sink)(&Case { y: &good, ..Case::new(Op::Resume, 0, x, 0).declined(7) });
+                (self.sink)(&Case { y: x, ..Case::new(Op::Resume, 0, &good, 0).declined(7) });
+            }
+            for x in [cut, &long] {
+                (self.sink)(&Case::new(Op::Issue, 0, x, 0).declined(7));
+            }
+            // an order that is out of range, that repeats a place, or that has another length
+            let mut order = self.d.permutation();
+            let at = self.d.below(21);
+            order[at] = if self.d.one_in(2) { 21 + self.d.below(235) as u8 } else { order[(at + 1 + self.d.below(20)) % 21] };
+            (self.sink)(&Case::new(Op::CheckOrder, 0, &order, 0).declined(6));
+            let longer = [&image::CATALOGUE_ORDER[..], &[at as u8]].concat();
+            (self.sink)(&Case::new(Op::CheckOrder, 0, &longer, 0).declined(6));
+            (self.sink)(&Case::new(Op::CheckOrder, 0, &image::CATALOGUE_ORDER[..at], 0).declined(6));
+            for (mut x, code) in [(good, 6), (bad, 7)] {
+                x[281] = 1;
+                x[282..].copy_from_slice(&order);
+                // an order that is there hides what spoilt an absent one
+                if code == 6 || i % inputs::SPOILS != inputs::SPOILS - 1 {
+                    (self.sink)(&Case::new(Op::Write, 0, &x, room).declined(code));
+                }
+            }
+        }
+    }
+}
+
+/// Every byte string of up to `most` bytes.
+fn every(most: usize, mut f: impl FnMut(&[u8])) {
+    for len in 0..=most {
+        for i in 0..1u64 << (8 * len) {
+            f(&i.to_be_bytes()[8 - len..]);
+        }
+    }
+}
