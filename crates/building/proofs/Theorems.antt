@@ -2,7 +2,7 @@
 --     built-sound      it is well formed, has the order handed in, a permutation, and a reserved identifier
 --     built-written    writing it stores its parameters in that order, or the buffer is too short
 --     built-accepted   so writing it refuses by no other number than 5
-use Prim.Native.Nat.{ℕ, zero, suc, _+_, _-_, _*_, _/_, _%_, _^_, _<_, _≤_, min}
+use Prim.Native.Nat.{ℕ, zero, suc, _+_, _-_, _%_, _^_, _<_, _≤_, min}
 use mathlib.Core.Path.{_≡_, refl, ap, sym, _∙_}
 use mathlib.Core.List.{List, [], _∷_, _++_}
 use mathlib.Core.Bool.{Bool, true, false, _&&_}

@@ -1,7 +1,7 @@
 -- What holds of resumption. Assumes nothing.
 --     resumes-itself     a well-formed record resumes from itself
 --     resumes-through    what resumes from a record that resumes from another resumes from that one
-use Prim.Native.Nat.{ℕ, _≤_}
+use Prim.Native.Nat.{ℕ}
 use mathlib.Core.Path.{_≡_, refl}
 use mathlib.Core.List.{List, [], _∷_}
 use mathlib.Core.Bool.{Bool, true, false, _&&_, _||_, not, not-or-self}

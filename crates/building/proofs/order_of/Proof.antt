@@ -1,15 +1,13 @@
 -- `building::order_of` meets its contract. The invariant: the first `i` bytes stand over zeros. Assumes nothing.
 use borrow.Author.Needs.{needs}
-use mathlib.Core.Path.{_∙_}
+use mathlib.Core.Path.{_∙_, _≡_}
 use mathlib.Core.List.{_++_, append-nil}
 use Rattle.building.specs.Building.{orderFrom}
 use Rattle.connection_id.proofs.Copy.{copied, copied-all}
 use lib.Seq.{paste, paste-zero}
 use lib.ListN.{length, replicate}
-use mathlib.Core.List.{List}
-use mathlib.Core.Path.{_≡_, ap}
 use native.Mathlib.Omega.{arith}
-use Prim.Native.Nat.{ℕ, _≤_, _-_}
+use Prim.Native.Nat.{_≤_, _-_}
 use Rattle.building.proofs.order_of.Statement.{statement}
 use Rattle.building.proofs.order_of.Tie as tie
 

@@ -1,14 +1,11 @@
 -- `building::reserved_of` meets its contract. The invariant: the first `i` bytes stand over zeros. Assumes nothing.
-use mathlib.Core.Bool.{true}
-use Rattle.parameters.specs.declared.ReservedTransportParameter.{ReservedTransportParameter}
-use Rattle.building.specs.Building.{reservedFrom, reservedId}
+use Rattle.building.specs.Building.{reservedFrom}
 use Rattle.connection_id.proofs.Copy.{copied, copied-all}
 use lib.Seq.{paste, paste-zero}
 use lib.ListN.{length, replicate}
-use mathlib.Core.List.{List}
-use mathlib.Core.Path.{_≡_, ap}
+use mathlib.Core.Path.{_≡_}
 use native.Mathlib.Omega.{arith}
-use Prim.Native.Nat.{ℕ, _≤_, _-_}
+use Prim.Native.Nat.{_≤_, _-_}
 use Rattle.building.proofs.reserved_of.Statement.{statement}
 use Rattle.building.proofs.reserved_of.Tie as tie
 

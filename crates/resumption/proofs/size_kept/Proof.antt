@@ -1,5 +1,4 @@
 -- `resumption::size_kept` meets its contract. Assumes nothing.
-use mathlib.Core.Path.{sym}
 use Rattle.resumption.proofs.Laws.{from-none}
 use borrow.Author.Needs.{needs}
 use Rattle.resumption.proofs.size_kept.Statement.{statement}

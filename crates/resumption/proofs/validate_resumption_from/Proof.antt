@@ -1,5 +1,4 @@
 -- `resumption::validate_resumption_from` meets its contract. Assumes nothing.
-use mathlib.Core.Path.{_≡_, sym, _∙_}
 use borrow.Author.Tests.{not-true, not-false}
 use Rattle.resumption.specs.Resumption.{resume}
 use borrow.Author.Needs.{needs}
