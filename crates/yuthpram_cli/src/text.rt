@@ -15,7 +15,7 @@ pub enum Hex {
 }
 
 // What decimal text holds.
-pub enum Decimal {
+pub enum DecimalText {
     Number(u64),
     Strange,
 }
@@ -131,19 +131,19 @@ fn appended(value: u64, digit: u8) -> u64 {
     10 * value + wide(digit)
 }
 
-pub fn parse_decimal(text: &[u8]) -> Decimal {
+pub fn parse_decimal(text: &[u8]) -> DecimalText {
     if text.len() == 0 {
-        return Decimal::Strange;
+        return DecimalText::Strange;
     }
     let mut value: u64 = 0;
     let mut i: usize = 0;
     while i < text.len() {
         let d = digit(text[i]);
         if 9 < d {
-            return Decimal::Strange;
+            return DecimalText::Strange;
         }
         value = appended(value, d);
         i += 1;
     }
-    Decimal::Number(value)
+    DecimalText::Number(value)
 }
