@@ -104,20 +104,8 @@ fn flag_in(text: &[u8], place: usize) -> bool {
 // How many bytes hexadecimal text holds; one more than there is room for if it holds too many.
 fn size_of(h: Hex, room: u8) -> u8 {
     match h {
-        Hex::Bytes(n) => {
-            if n < 255 {
-                n as u8
-            } else {
-                255
-            }
-        }
-        Hex::Long => {
-            if room < 255 {
-                room + 1
-            } else {
-                255
-            }
-        }
+        Hex::Bytes(n) => { if n < 255 { n as u8 } else { 255 } }
+        Hex::Long => { if room < 255 { room + 1 } else { 255 } }
         _ => 0,
     }
 }

@@ -21,6 +21,7 @@ use parameters::Checked;
 use parameters::Side;
 use reader::Answer;
 use text::DecimalText;
+use tidy::Tidied;
 use varint::Decoded;
 use varint::Encoded;
 use varint::VarInt;
@@ -85,21 +86,14 @@ fn say_saved(before: usize, after: usize) {
 }
 
 fn tidy(side: Side, src: &[u8]) {
-    let reading = reader::read(side, src);
-    let answer = reading.answer;
-    let record = reading.parameters;
-    if let Answer::Refused(r) = answer {
-        fault::explain(side, r, src);
-        return;
-    }
     let mut out = [0u8; 314];
-    match writer::write(record, &mut out) {
-        Written::Count(n) => {
+    match tidy::tidy(side, src, &mut out) {
+        Tidied::Count(n) => {
             say_hex(first(n, &out));
             say(b"\n");
             say_saved(src.len(), n);
         }
-        Written::Refused(r) => fault::say_refusal(r),
+        Tidied::Refused(r) => fault::explain(side, r, src),
     }
 }
 
@@ -193,7 +187,7 @@ fn check_command() {
     check_record_command(side);
 }
 
-fn command_at_1() -> Command {
+fn command_given() -> Command {
     if os::arg_count() < 2 {
         return Command::Help;
     }
@@ -219,7 +213,7 @@ fn command_at_1() -> Command {
 }
 
 fn main() {
-    let c = command_at_1();
+    let c = command_given();
     match c {
         Command::Help => help::say_help(),
         Command::Read | Command::Tidy => extension_command(c),
