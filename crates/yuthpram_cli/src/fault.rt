@@ -180,30 +180,15 @@ fn say_presence(side: Side) {
     }
 }
 
-fn say_place(at: usize, id: u64) {
-    say(b"at byte ");
-    say_number(at as u64);
-    say(b", ");
-    names::say_name(parameters::place_of(id));
+// Which parameter it is, and what is wrong with it.
+fn say_cause(side: Side, f: Fault) {
+    let why = f.why;
+    let id = f.id;
+    let place = parameters::place_of(id);
+    names::say_name(place);
     say(b" (");
     say_identifier(id);
     say(b"): ");
-}
-
-fn say_cut(at: usize) {
-    say(b"at byte ");
-    say_number(at as u64);
-    say(b": the input ends within this parameter\n");
-}
-
-fn say_fault(side: Side, f: Fault) {
-    let why = f.why;
-    if let Why::Cut = why {
-        say_cut(f.at);
-        return;
-    }
-    say_place(f.at, f.id);
-    let place = parameters::place_of(f.id);
     match why {
         Why::SecondCopy => say(b"a second copy\n"),
         Why::Misfit => say_misfit(place),
@@ -212,8 +197,25 @@ fn say_fault(side: Side, f: Fault) {
     }
 }
 
+fn say_fault(side: Side, f: Fault) {
+    let why = f.why;
+    say(b"at byte ");
+    say_number(f.at as u64);
+    if let Why::Cut = why {
+        say(b": the input ends within this parameter\n");
+        return;
+    }
+    say(b", ");
+    say_cause(side, f);
+}
+
 // A refusal of reading, and its cause.
 pub fn explain(side: Side, r: Refusal, src: &[u8]) {
     say_refusal(r);
     say_fault(side, locate(side, r.number(), src));
+}
+
+// The cause alone, and not at which byte it stands.
+pub fn say_culprit(side: Side, r: Refusal, src: &[u8]) {
+    say_cause(side, locate(side, r.number(), src));
 }

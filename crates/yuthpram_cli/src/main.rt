@@ -1,4 +1,5 @@
 // The command-line tool: a thin program over the library. It reads text, prints answers and decides nothing about extensions.
+mod answers;
 mod fault;
 mod form;
 mod help;
@@ -13,19 +14,8 @@ use input::Input;
 use input::SideWord;
 use input::first;
 use out::complain;
-use out::say;
-use out::say_count;
-use out::say_hex;
-use out::say_number;
-use parameters::Checked;
 use parameters::Side;
-use reader::Answer;
 use text::DecimalText;
-use tidy::Tidied;
-use varint::Decoded;
-use varint::Encoded;
-use varint::VarInt;
-use writer::Written;
 
 enum Command {
     Help,
@@ -37,95 +27,12 @@ enum Command {
     Unknown,
 }
 
-fn read(side: Side, src: &[u8]) {
-    let reading = reader::read(side, src);
-    let answer = reading.answer;
-    let record = reading.parameters;
-    match answer {
-        Answer::Accepted => show::show(record),
-        Answer::Refused(r) => fault::explain(side, r, src),
-    }
-}
-
-fn check(side: Side, src: &[u8]) {
-    let reading = reader::read(side, src);
-    let answer = reading.answer;
-    match answer {
-        Answer::Accepted => say(b"accepted\n"),
-        Answer::Refused(r) => fault::explain(side, r, src),
-    }
-}
-
-fn check_record(side: Side, text: &[u8]) {
-    let record = form::record_of(text);
-    match record.check(side) {
-        Checked::Legal => say(b"legal\n"),
-        Checked::Refused(r) => fault::say_refusal(r),
-    }
-}
-
-fn write(text: &[u8]) {
-    let record = form::record_of(text);
-    let mut out = [0u8; 314];
-    match writer::write(record, &mut out) {
-        Written::Count(n) => {
-            say_hex(first(n, &out));
-            say(b"\n");
-        }
-        Written::Refused(r) => fault::say_refusal(r),
-    }
-}
-
-fn say_saved(before: usize, after: usize) {
-    if after <= before {
-        say_count((before - after) as u64, b"byte");
-        say(b" saved, ");
-    }
-    say_count(after as u64, b"byte");
-    say(b" left\n");
-}
-
-fn tidy(side: Side, src: &[u8]) {
-    let mut out = [0u8; 314];
-    match tidy::tidy(side, src, &mut out) {
-        Tidied::Count(n) => {
-            say_hex(first(n, &out));
-            say(b"\n");
-            say_saved(src.len(), n);
-        }
-        Tidied::Refused(r) => fault::explain(side, r, src),
-    }
-}
-
-fn decode(src: &[u8]) {
-    match VarInt::decode(src) {
-        Decoded::Value(x, n) => {
-            say_number(x);
-            say(b" (");
-            say_count(n as u64, b"byte");
-            say(b")\n");
-        }
-        Decoded::Refused(r) => fault::say_refusal(r),
-    }
-}
-
-fn encode(x: u64) {
-    let mut out = [0u8; 8];
-    match VarInt(x).encode(&mut out) {
-        Encoded::Count(n) => {
-            say_hex(first(n, &out));
-            say(b"\n");
-        }
-        Encoded::Refused(r) => fault::say_refusal(r),
-    }
-}
-
 fn number_command() {
     if input::is_argument(2, b"--write") {
         let mut digits = [0u8; 32];
         let n = os::arg(3, &mut digits);
         match text::parse_decimal(&digits[..n]) {
-            DecimalText::Number(x) => encode(x),
+            DecimalText::Number(x) => answers::encode(x),
             DecimalText::Strange => complain(b"yuthpram: number --write takes a decimal number\n"),
         }
         return;
@@ -134,7 +41,7 @@ fn number_command() {
     let Input::Bytes(n) = input::bytes_at(2, &mut src) else {
         return;
     };
-    decode(first(n, &src));
+    answers::decode(first(n, &src));
 }
 
 fn write_command() {
@@ -144,7 +51,7 @@ fn write_command() {
     };
     let form = first(n, &text);
     if lines::are_sound(form) {
-        write(form);
+        answers::write(form);
     }
 }
 
@@ -155,7 +62,7 @@ fn check_record_command(side: Side) {
     };
     let form = first(n, &text);
     if lines::are_sound(form) {
-        check_record(side, form);
+        answers::check_record(side, form);
     }
 }
 
@@ -170,9 +77,9 @@ fn extension_command(command: Command) {
     };
     let extension = first(n, &src);
     match command {
-        Command::Read => read(side, extension),
-        Command::Tidy => tidy(side, extension),
-        _ => check(side, extension),
+        Command::Read => answers::read(side, extension),
+        Command::Tidy => answers::tidy(side, extension),
+        _ => answers::check(side, extension),
     }
 }
 
@@ -191,7 +98,7 @@ fn command_given() -> Command {
     if os::arg_count() < 2 {
         return Command::Help;
     }
-    if input::is_argument(1, b"--help") {
+    if input::is_argument(1, b"--help") || input::is_argument(1, b"-h") {
         return Command::Help;
     }
     if input::is_argument(1, b"read") {
