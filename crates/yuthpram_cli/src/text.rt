@@ -1,0 +1,149 @@
+// Text: lines and words, hexadecimal and decimal.
+ghost use mathlib.Core.Path.{_≡_};
+ghost use Prim.Native.Nat.{_≤_};
+ghost use lib.ListN.{length};
+
+// What hexadecimal text holds.
+pub enum Hex {
+    Bytes(usize),
+    // a character that is neither a digit nor a gap, by its place in the text
+    Strange(usize),
+    // an odd number of digits
+    Odd,
+    // more bytes than there is room for
+    Long,
+}
+
+// What decimal text holds.
+pub enum DecimalText {
+    Number(u64),
+    Strange,
+}
+
+pub fn wide(x: u8) -> u64
+    ensures { λ r. ⌜ r ≡ x ⌝ }
+{
+    x as u64
+}
+
+// A space, the end of a line, or `sep`.
+fn is_gap(b: u8, sep: u8) -> bool {
+    b == b' ' || b == b'\t' || b == b'\n' || b == b'\r' || b == sep
+}
+
+// The first place from `at` on that is a gap, or that is none; else the end.
+fn run(text: &[u8], at: usize, sep: u8, gap: bool) -> usize
+    requires { ⌜ at ≤ length (now text) ⌝ }
+    ensures { λ r. ⌜ (at ≤ r) × (r ≤ length (now (text .entry))) ⌝ }
+{
+    let mut i = at;
+    while i < text.len() {
+        if is_gap(text[i], sep) == gap {
+            return i;
+        }
+        i += 1;
+    }
+    i
+}
+
+// Word `k` of the text, counted from 0; empty if there are fewer. Words are parted by gaps.
+pub fn word<'a>(text: &'a [u8], k: usize, sep: u8) -> &'a [u8] {
+    let mut at: usize = 0;
+    let mut i: usize = 0;
+    while i < k {
+        let from = run(text, at, sep, false);
+        at = run(text, from, sep, true);
+        i += 1;
+    }
+    let from = run(text, at, sep, false);
+    let to = run(text, from, sep, true);
+    &text[from..to]
+}
+
+// The line that starts at `at`, without its end.
+pub fn line_at<'a>(text: &'a [u8], at: usize) -> &'a [u8]
+    requires { ⌜ at ≤ length (now text) ⌝ }
+{
+    let end = bytes::scan::find(text, at, text.len(), b'\n');
+    &text[at..end]
+}
+
+// What a character of hexadecimal text stands for: a digit, or a gap, or something strange.
+const GAP: u8 = 16;
+
+const STRANGE: u8 = 17;
+
+fn digit(b: u8) -> u8 {
+    if b'0' <= b && b <= b'9' {
+        return b % 16;
+    }
+    if b'a' <= b && b <= b'f' {
+        return b % 16 + 9;
+    }
+    if b'A' <= b && b <= b'F' {
+        return b % 16 + 9;
+    }
+    if is_gap(b, b':') { GAP } else { STRANGE }
+}
+
+// Stores the digit behind the `digits` before it; tells whether there is room.
+fn put_digit(out: &mut [u8], digits: usize, d: u8) -> bool {
+    let k = digits / 2;
+    if out.len() <= k {
+        return false;
+    }
+    if digits % 2 == 0 {
+        out[k] = d << 4;
+    } else {
+        out[k] = out[k] | d;
+    }
+    true
+}
+
+// Puts the bytes that hexadecimal text holds at the front of `out`. Gaps and colons are skipped.
+pub fn parse_hex(text: &[u8], out: &mut [u8]) -> Hex {
+    let mut digits: usize = 0;
+    let mut i: usize = 0;
+    while i < text.len() {
+        let d = digit(text[i]);
+        if d == STRANGE {
+            return Hex::Strange(i);
+        }
+        if d != GAP {
+            if !put_digit(out, digits, d) {
+                return Hex::Long;
+            }
+            digits += 1;
+        }
+        i += 1;
+    }
+    if digits % 2 == 1 {
+        return Hex::Odd;
+    }
+    Hex::Bytes(digits / 2)
+}
+
+// The number and one more digit. Whatever is not below 2^62 then may grow further: no operation takes it.
+fn appended(value: u64, digit: u8) -> u64 {
+    if 1 << 60 <= value {
+        return u64::MAX;
+    }
+    10 * value + wide(digit)
+}
+
+pub fn parse_decimal(text: &[u8]) -> DecimalText {
+    if text.len() == 0 {
+        return DecimalText::Strange;
+    }
+    let mut value: u64 = 0;
+    let mut i: usize = 0;
+    while i < text.len() {
+        let d = digit(text[i]);
+        if 9 < d {
+            return DecimalText::Strange;
+        }
+        value = appended(value, d);
+        i += 1;
+    }
+    DecimalText::Number(value)
+}
