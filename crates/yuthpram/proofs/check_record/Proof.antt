@@ -1,0 +1,30 @@
+-- `yuthpram::check_record` meets its contract. Assumes nothing.
+use mathlib.Core.Path.{ap, sym, _∙_}
+use Rattle.parameters.specs.Answer.{checkOutcome}
+use Rattle.yuthpram.proofs.Answers.{code-done, code-refused}
+use borrow.Author.Needs.{needs}
+use Rattle.yuthpram.proofs.check_record.Statement.{statement}
+use Rattle.yuthpram.proofs.check_record.Tie as tie
+
+check-requires : tie.Need-check-requires
+check-requires c κs = search needs
+
+enum-told : tie.Need-enum-told
+enum-told c = search needs
+
+enum-known-refusal : tie.Need-enum-known-refusal
+enum-known-refusal c = search needs
+
+number-requires : tie.Need-number-requires
+number-requires c κs = search needs
+
+returns : tie.Need-returns
+returns c = code-done _ _ (sym (c .before .before .check .ensures) ∙ ap checkOutcome (c .enum-told .given .1))
+
+returns-2 : tie.Need-returns-2
+returns-2 c = code-refused _ _ _ (sym (c .before .before .before .before .check .ensures) ∙ ap checkOutcome (c .before .before .refusal .given .1)) (c .number .ensures)
+
+pub check-record-spec : {M : Type 1} → statement M
+check-record-spec =
+    tie.close
+    (tie.spec check-requires enum-told enum-known-refusal number-requires returns returns-2)

@@ -1,0 +1,45 @@
+-- `yuthpram::yuthpram_cid_read` meets its contract. Assumes nothing.
+use Rattle.yuthpram.specs.Interface.{cidRead, cidStore}
+use Rattle.yuthpram.proofs.Answers.{given-counted, not-counted, decoded-in, decoded-out}
+use borrow.Author.Needs.{needs}
+use Rattle.yuthpram.proofs.yuthpram_cid_read.Statement.{statement}
+use Rattle.yuthpram.proofs.yuthpram_cid_read.Tie as tie
+
+decode-long-requires : tie.Need-decode-long-requires
+decode-long-requires c κs = search needs
+
+enum-known-answer : tie.Need-enum-known-answer
+enum-known-answer c = search needs
+
+store-cid-requires : tie.Need-store-cid-requires
+store-cid-requires c κs = search needs
+
+enum-known-answer-2 : tie.Need-enum-known-answer-2
+enum-known-answer-2 c = search needs
+
+number-requires : tie.Need-number-requires
+number-requires c κs = search needs
+
+same-length : tie.Need-same-length
+same-length c = search needs
+
+returns : tie.Need-returns
+unfolding cidRead
+returns c = given-counted _ cidStore _ _ _ _ (decoded-in _ _ (c .before .before .before .before .before .before .before .before .before .decode-long .ensures) _ (c .before .before .before .before .before .before .before .answer .given .1)) (c .before .before .store-cid .ensures)
+
+returns-2 : tie.Need-returns-2
+unfolding cidRead
+returns-2 c = not-counted _ cidStore _ _ _ _ (decoded-out _ _ (c .before .before .before .before .decode-long .ensures) _ (c .before .before .answer2 .given .1)) (c .number .ensures)
+
+pub yuthpram-cid-read-spec : {M : Type 1} → statement M
+yuthpram-cid-read-spec =
+    tie.close
+    (tie.spec
+    decode-long-requires
+    enum-known-answer
+    store-cid-requires
+    enum-known-answer-2
+    number-requires
+    same-length
+    returns
+    returns-2)
