@@ -1,0 +1,338 @@
+// Calls each function of the C interface on accepted and refused inputs, and checks what it answers and stores; after a refusal, that
+// nothing behind an output pointer has changed. Writes one line, and exits with 1 if a check failed.
+#include <stdio.h>
+#include <string.h>
+
+#include "yuthpram.h"
+
+#define RECORD YUTHPRAM_RECORD_SIZE
+#define CID YUTHPRAM_CID_SIZE
+#define BOUND ((uint64_t)1 << 62)
+
+// Every output that a call is lent, filled with a pattern before it.
+static uint8_t out[400];
+static uint64_t value;
+static size_t count;
+static int passed, failed;
+
+static void reset(void)
+{
+    memset(out, 0xa5, sizeof out);
+    value = 0x1122334455667788;
+    count = 0x99;
+}
+
+// Whether the output from a place on is as it was.
+static int kept(size_t from)
+{
+    for (size_t i = from; i < sizeof out; i++)
+        if (out[i] != 0xa5)
+            return 0;
+    return 1;
+}
+
+static int untouched(void)
+{
+    return kept(0) && value == 0x1122334455667788 && count == 0x99;
+}
+
+static void expect(int ok, int line, const char *what)
+{
+    if (ok) {
+        passed++;
+        return;
+    }
+    failed++;
+    fprintf(stderr, "line %d: %s\n", line, what);
+}
+
+#define CHECK(fact) expect(fact, __LINE__, #fact)
+#define ACCEPTS(call) (reset(), expect((call) == 0, __LINE__, #call))
+#define REFUSES(code, call) (reset(), expect((call) == (code) && untouched(), __LINE__, #code " " #call))
+
+// Eight bytes of an image, the high byte first.
+static void put(uint8_t *image, size_t at, uint64_t x)
+{
+    for (int i = 7; i >= 0; i--, x >>= 8)
+        image[at + (size_t)i] = (uint8_t)x;
+}
+
+static uint64_t get(const uint8_t *image, size_t at)
+{
+    uint64_t x = 0;
+    for (int i = 0; i < 8; i++)
+        x = x << 8 | image[at + (size_t)i];
+    return x;
+}
+
+static void numbers(void)
+{
+    static const uint64_t values[] = { 0, 63, 64, 16383, 16384, 1073741823, 1073741824, BOUND - 1 };
+    static const uint8_t sizes[] = { 1, 1, 2, 2, 4, 4, 8, 8 };
+    for (size_t i = 0; i < 8; i++) {
+        uint64_t back = 0;
+        size_t read = 0;
+        CHECK(yuthpram_number_size(values[i]) == sizes[i]);
+        ACCEPTS(yuthpram_number_write(values[i], out, sizes[i], &count));
+        CHECK(count == sizes[i] && kept(count));
+        CHECK(yuthpram_number_read(out, sizes[i], &back, &read) == 0 && back == values[i] && read == count);
+        REFUSES(5, yuthpram_number_write(values[i], out, sizes[i] - 1u, &count));
+    }
+    CHECK(yuthpram_number_size(BOUND) == 8 && yuthpram_number_size(UINT64_MAX) == 8);
+    REFUSES(4, yuthpram_number_write(BOUND, out, 8, &count));
+    REFUSES(4, yuthpram_number_write(UINT64_MAX, out, 0, &count));
+
+    static const uint8_t hundred[] = { 0x80, 0, 0, 100, 7 };
+    ACCEPTS(yuthpram_number_read(hundred, 5, &value, &count));
+    CHECK(value == 100 && count == 4);
+    REFUSES(3, yuthpram_number_read(hundred, 3, &value, &count));
+    REFUSES(3, yuthpram_number_read(hundred, 0, &value, &count));
+}
+
+static void connection_ids(void)
+{
+    uint8_t wire[22] = { 3, 7, 8, 9, 1 };
+    static const uint8_t image[CID] = { 3, 7, 8, 9 };
+    ACCEPTS(yuthpram_cid_read(wire, 5, out, CID, &count));
+    CHECK(count == 4 && memcmp(out, image, CID) == 0 && kept(CID));
+    REFUSES(5, yuthpram_cid_read(wire, 5, out, CID - 1, &count));
+    REFUSES(1, yuthpram_cid_read(wire, 3, out, CID, &count));
+    REFUSES(1, yuthpram_cid_read(wire, 0, out, CID, &count));
+    wire[0] = 21;
+    REFUSES(1, yuthpram_cid_read(wire, 22, out, CID, &count));
+    REFUSES(1, yuthpram_cid_read(wire, 22, out, 0, &count));
+
+    ACCEPTS(yuthpram_cid_write(image, CID, out, 9, &count));
+    CHECK(count == 4 && memcmp(out, image, 4) == 0 && kept(4));
+    REFUSES(5, yuthpram_cid_write(image, CID, out, 3, &count));
+    REFUSES(7, yuthpram_cid_write(image, CID - 1, out, 9, &count));
+    uint8_t long_one[CID] = { 21 }, tail[CID] = { 3, 7, 8, 9, 1 };
+    REFUSES(7, yuthpram_cid_write(long_one, CID, out, 9, &count));
+    REFUSES(7, yuthpram_cid_write(tail, CID, out, 0, &count));
+}
+
+// The image of the default record.
+static void default_record(uint8_t *image)
+{
+    CHECK(yuthpram_default(image, RECORD) == 0);
+}
+
+static void defaults(void)
+{
+    uint8_t image[RECORD];
+    default_record(image);
+    CHECK(get(image, 0) == 0 && get(image, 8) == 65527 && get(image, 64) == 3 && get(image, 72) == 25 && get(image, 80) == 2);
+    size_t others = 0;
+    for (size_t i = 88; i < RECORD; i++)
+        others += image[i];
+    CHECK(others == 0);
+    ACCEPTS(yuthpram_default(out, sizeof out));
+    CHECK(memcmp(out, image, RECORD) == 0 && kept(RECORD));
+    REFUSES(5, yuthpram_default(out, RECORD - 1));
+    REFUSES(5, yuthpram_default(out, 0));
+}
+
+static void checking(void)
+{
+    static const size_t flags[] = { 88, 89, 90, 99, 108, 130, 152, 174, 191, 192, 199, 255, 281 };
+    uint8_t image[RECORD + 1] = { 0 };
+    default_record(image);
+    CHECK(yuthpram_check(image, RECORD, 0) == 0 && yuthpram_check(image, RECORD, 1) == 0);
+    CHECK(yuthpram_check(image, RECORD - 1, 0) == 7 && yuthpram_check(image, RECORD + 1, 0) == 7);
+    for (size_t i = 0; i < sizeof flags / sizeof *flags; i++) {
+        default_record(image);
+        image[flags[i]] = 2;
+        CHECK(yuthpram_check(image, RECORD, 0) == 7);
+    }
+    for (size_t at = 90; at <= 99; at += 9) {
+        default_record(image);
+        image[at + 8] = 1; // a number that is absent
+        CHECK(yuthpram_check(image, RECORD, 0) == 7);
+        image[at] = 1;
+        CHECK(yuthpram_check(image, RECORD, 0) == 0);
+    }
+    default_record(image);
+    put(image, 0, BOUND);
+    CHECK(yuthpram_check(image, RECORD, 0) == 7);
+    put(image, 0, BOUND - 1);
+    put(image, 64, 21); // ack_delay_exponent
+    CHECK(yuthpram_check(image, RECORD, 0) == 2);
+    default_record(image);
+    image[174] = 1; // a token is not sent to a server
+    CHECK(yuthpram_check(image, RECORD, 0) == 0 && yuthpram_check(image, RECORD, 1) == 2 && yuthpram_check(image, RECORD, 255) == 2);
+    image[174] = 0;
+    image[175] = 1;
+    CHECK(yuthpram_check(image, RECORD, 0) == 7);
+}
+
+static void reading(void)
+{
+    // max_idle_timeout 100, grease_quic_bit, an unknown parameter, initial_source_connection_id 7 8 9
+    static const uint8_t src[] = { 1, 2, 0x40, 100, 0x6a, 0xb2, 0, 27, 1, 5, 15, 3, 7, 8, 9 };
+    static const uint8_t twice[] = { 1, 1, 5, 1, 1, 5 }, illegal[] = { 10, 1, 21 }, cut[] = { 1, 2, 5 };
+    static const uint8_t token[18] = { 2, 16, 1 };
+    uint8_t image[RECORD];
+    ACCEPTS(yuthpram_read(0, src, sizeof src, out, sizeof out));
+    CHECK(get(out, 0) == 100 && get(out, 8) == 65527 && out[89] == 1 && kept(RECORD));
+    CHECK(out[130] == 1 && out[131] == 3 && out[132] == 7 && out[134] == 9 && out[135] == 0);
+    default_record(image);
+    ACCEPTS(yuthpram_read(1, src, 0, out, RECORD));
+    CHECK(memcmp(out, image, RECORD) == 0);
+    ACCEPTS(yuthpram_read(0, token, 18, out, RECORD));
+    REFUSES(2, yuthpram_read(1, token, 18, out, RECORD));
+    REFUSES(1, yuthpram_read(0, twice, 6, out, RECORD));
+    REFUSES(1, yuthpram_read(0, cut, 3, out, RECORD));
+    REFUSES(2, yuthpram_read(0, illegal, 3, out, RECORD));
+    REFUSES(2, yuthpram_read(0, illegal, 3, out, 0));
+    REFUSES(5, yuthpram_read(0, src, sizeof src, out, RECORD - 1));
+}
+
+// A permutation of the places: the last place first.
+static void backwards(uint8_t *order)
+{
+    for (uint8_t i = 0; i < 21; i++)
+        order[i] = (uint8_t)(20 - i);
+}
+
+static void orders(void)
+{
+    uint8_t order[22];
+    backwards(order);
+    CHECK(yuthpram_check_order(order, 21) == 0);
+    CHECK(yuthpram_check_order(order, 20) == 6 && yuthpram_check_order(order, 22) == 6 && yuthpram_check_order(order, 0) == 6);
+    order[0] = 0;
+    CHECK(yuthpram_check_order(order, 21) == 6);
+    order[0] = 21;
+    CHECK(yuthpram_check_order(order, 21) == 6);
+}
+
+static void writing(void)
+{
+    static const uint8_t catalogue[] = { 1, 2, 0x40, 100, 32, 2, 0x44, 0xb0, 15, 1, 9 };
+    static const uint8_t ordered[] = { 15, 1, 9, 32, 2, 0x44, 0xb0, 1, 2, 0x40, 100 };
+    uint8_t image[RECORD];
+    default_record(image);
+    ACCEPTS(yuthpram_write(image, RECORD, out, 0, &count));
+    CHECK(count == 0 && kept(0));
+    put(image, 0, 100);
+    image[90] = 1;
+    put(image, 91, 1200);
+    image[130] = image[131] = 1;
+    image[132] = 9;
+    ACCEPTS(yuthpram_write(image, RECORD, out, sizeof out, &count));
+    CHECK(count == 11 && memcmp(out, catalogue, 11) == 0 && kept(11));
+    REFUSES(5, yuthpram_write(image, RECORD, out, 10, &count));
+    image[281] = 1;
+    REFUSES(6, yuthpram_write(image, RECORD, out, sizeof out, &count));
+    backwards(image + 282);
+    ACCEPTS(yuthpram_write(image, RECORD, out, 11, &count));
+    CHECK(count == 11 && memcmp(out, ordered, 11) == 0 && kept(11));
+    REFUSES(7, yuthpram_write(image, RECORD - 1, out, sizeof out, &count));
+    image[131] = 21;
+    REFUSES(7, yuthpram_write(image, RECORD, out, 0, &count));
+}
+
+static void tidying(void)
+{
+    // unknown, initial_max_data 5 in eight bytes, ack_delay_exponent at its default
+    static const uint8_t src[] = { 27, 0, 4, 8, 0xc0, 0, 0, 0, 0, 0, 0, 5, 0x40, 10, 1, 3 };
+    static const uint8_t shortest[] = { 4, 1, 5 }, illegal[] = { 10, 1, 21 };
+    ACCEPTS(yuthpram_tidy(1, src, sizeof src, out, sizeof out, &count));
+    CHECK(count == 3 && memcmp(out, shortest, 3) == 0 && kept(3));
+    ACCEPTS(yuthpram_tidy(1, shortest, 3, out, 3, &count));
+    CHECK(count == 3 && memcmp(out, shortest, 3) == 0 && kept(3));
+    REFUSES(5, yuthpram_tidy(1, src, sizeof src, out, 2, &count));
+    REFUSES(1, yuthpram_tidy(1, src, sizeof src - 1, out, sizeof out, &count));
+    REFUSES(2, yuthpram_tidy(0, illegal, 3, out, 0, &count));
+}
+
+static void building(void)
+{
+    const uint64_t settings[YUTHPRAM_SETTINGS] = { 100, 101, 1 << 20, 1 << 16, 30000, 1472, 1, 1, 70000, 8, 1, 0 };
+    const uint8_t cid[CID] = { 2, 5, 6 }, payload[16] = { 1, 2, 3 };
+    uint8_t order[21], image[RECORD], extension[YUTHPRAM_MAX_EXTENSION];
+    backwards(order);
+    ACCEPTS(yuthpram_new(settings, YUTHPRAM_SETTINGS, cid, CID, 40, payload, 3, order, 21, out, sizeof out));
+    CHECK(kept(RECORD) && yuthpram_check(out, RECORD, 0) == 0);
+    memcpy(image, out, RECORD);
+    CHECK(get(image, 0) == 30000 && get(image, 8) == 1472 && get(image, 16) == 1 << 20 && get(image, 80) == 5);
+    for (size_t at = 24; at < 48; at += 8)
+        CHECK(get(image, at) == 1 << 16);
+    CHECK(get(image, 48) == 100 && get(image, 56) == 101 && image[88] == 1 && image[89] == 1);
+    CHECK(image[90] == 1 && get(image, 91) == 65535 && image[99] == 1 && get(image, 100) == 1000);
+    CHECK(image[130] == 1 && memcmp(image + 131, cid, CID) == 0);
+    CHECK(image[255] == 1 && get(image, 256) == 58 && image[264] == 3 && memcmp(image + 265, payload, 16) == 0);
+    CHECK(image[281] == 1 && memcmp(image + 282, order, 21) == 0);
+
+    // what was built can be written and read back, but for the reserved parameter and the order
+    size_t n = 0;
+    CHECK(yuthpram_write(image, RECORD, extension, sizeof extension, &n) == 0);
+    ACCEPTS(yuthpram_read(0, extension, n, out, RECORD));
+    memset(image + 255, 0, RECORD - 255);
+    CHECK(memcmp(out, image, RECORD) == 0);
+}
+
+static void not_building(void)
+{
+    uint64_t settings[YUTHPRAM_SETTINGS] = { 0, 0, 0, 0, 0, 1200, 0, 0, 0, 0, 0, 0 };
+    uint8_t cid[CID] = { 2, 5, 6 }, payload[16] = { 0 }, order[21];
+    const size_t n = YUTHPRAM_SETTINGS;
+    backwards(order);
+    ACCEPTS(yuthpram_new(settings, n, cid, CID, BOUND - 28, payload, 15, order, 21, out, RECORD));
+    CHECK(out[90] == 0 && get(out, 91) == 0 && out[88] == 0 && get(out, 80) == 2);
+    REFUSES(7, yuthpram_new(settings, n - 1, cid, CID, 0, payload, 0, order, 21, out, RECORD));
+    REFUSES(7, yuthpram_new(settings, n, cid, CID - 1, 0, payload, 0, order, 21, out, RECORD));
+    REFUSES(9, yuthpram_new(settings, n, cid, CID, BOUND - 27, payload, 0, order, 21, out, RECORD));
+    REFUSES(9, yuthpram_new(settings, n, cid, CID, 0, payload, 16, order, 21, out, RECORD));
+    REFUSES(6, yuthpram_new(settings, n, cid, CID, 0, payload, 0, order, 20, out, RECORD));
+    REFUSES(5, yuthpram_new(settings, n, cid, CID, 0, payload, 0, order, 21, out, RECORD - 1));
+    settings[YUTHPRAM_DATAGRAM_RECEIVE_BUFFER_SIZE] = settings[YUTHPRAM_CID_LEN] = UINT64_MAX;
+    ACCEPTS(yuthpram_new(settings, n, cid, CID, 0, payload, 0, order, 21, out, RECORD));
+    CHECK(out[90] == 0 && get(out, 80) == 5);
+    settings[YUTHPRAM_RECEIVE_WINDOW] = BOUND;
+    REFUSES(4, yuthpram_new(settings, n, cid, CID - 1, BOUND, payload, 16, order, 0, out, 0));
+    settings[YUTHPRAM_RECEIVE_WINDOW] = 0;
+    cid[0] = 1;
+    REFUSES(7, yuthpram_new(settings, n, cid, CID, BOUND, payload, 16, order, 0, out, 0));
+}
+
+static void resumption(void)
+{
+    uint8_t image[RECORD], cached[RECORD];
+    default_record(image);
+    default_record(cached);
+    CHECK(yuthpram_validate_resumption_from(image, RECORD, cached, RECORD) == 0);
+    put(cached, 16, 5); // initial_max_data
+    CHECK(yuthpram_validate_resumption_from(image, RECORD, cached, RECORD) == 8);
+    CHECK(yuthpram_validate_resumption_from(cached, RECORD, image, RECORD) == 0);
+    CHECK(yuthpram_validate_resumption_from(image, RECORD - 1, cached, RECORD) == 7);
+    CHECK(yuthpram_validate_resumption_from(image, RECORD, cached, 0) == 7);
+    put(cached, 0, BOUND);
+    CHECK(yuthpram_validate_resumption_from(image, RECORD, cached, RECORD) == 7);
+
+    ACCEPTS(yuthpram_issue_cids_limit(image, RECORD, &value));
+    CHECK(value == 2);
+    put(image, 80, 9);
+    ACCEPTS(yuthpram_issue_cids_limit(image, RECORD, &value));
+    CHECK(value == 8);
+    REFUSES(7, yuthpram_issue_cids_limit(image, RECORD - 1, &value));
+    image[88] = 2;
+    REFUSES(7, yuthpram_issue_cids_limit(image, RECORD, &value));
+}
+
+int main(void)
+{
+    numbers();
+    connection_ids();
+    defaults();
+    checking();
+    reading();
+    orders();
+    writing();
+    tidying();
+    building();
+    not_building();
+    resumption();
+    printf("%d passed, %d failed\n", passed, failed);
+    return failed != 0;
+}
