@@ -1,4 +1,6 @@
 // What is wrong with the text form of a record, and in which line.
+ghost use Prim.Native.Nat.{_<_};
+ghost use lib.ListN.{length};
 use crate::form::find_line;
 use crate::form::is_given;
 use crate::form::is_word;
@@ -13,8 +15,6 @@ use crate::text::line_at;
 use crate::text::parse_decimal;
 use crate::text::parse_hex;
 use crate::text::word;
-ghost use Prim.Native.Nat.{_<_};
-ghost use lib.ListN.{length};
 
 enum Slip {
     Nothing,
