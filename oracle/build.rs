@@ -13,7 +13,13 @@ fn item(file: &str, first: &str) -> String {
     lines[at - above..=end].join("\n") + "\n\n"
 }
 
+#[allow(dead_code)]
 fn main() {
+    link();
+}
+
+/// The folder of the static library.
+pub fn link() -> PathBuf {
     let here = PathBuf::from(env::var("CARGO_MANIFEST_DIR").unwrap());
     let root = here.parent().unwrap();
     let folder = |name: &str, default: &str| {
@@ -62,4 +68,5 @@ fn main() {
     println!("cargo:rerun-if-changed={}", library.join("libyuthpram.a").display());
     println!("cargo:rustc-link-search=native={}", library.display());
     println!("cargo:rustc-link-lib=static=yuthpram");
+    library
 }
