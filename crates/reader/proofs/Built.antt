@@ -9,7 +9,7 @@ use lib.ListN.{length, getD, take, drop, replicate, length-take, length-drop}
 use lib.Seq.{drop-cons, take-all, length-take-le, getD-take, getD-drop, ext-getD, drop-drop}
 use lib.Dec.{eqb, leb, ltb}
 use borrow.Author.Tests.{leb-true, eqb-true}
-use Rattle.refusal.specs.Outcome.{Result, accepted, refused, pick, andThen, all}
+use Rattle.refusal.specs.Outcome.{Result, accepted, refused, Outcome, pick, andThen, all}
 use Rattle.refusal.specs.Number.{numberOf}
 use Rattle.refusal.proofs.Laws.{all-at}
 use Rattle.varint.specs.Number.{valueFrom}
@@ -34,10 +34,12 @@ use Rattle.parameters.proofs.Places.{number-kind, number-in, numbers-length}
 use Rattle.reader.specs.declared.Fault.{Fault}
 use Rattle.reader.specs.declared.Fault.the-variants.{Cut, SecondCopy, Misfit, Illegal}
 use Rattle.reader.specs.declared.Reading.{Reading}
+use Rattle.reader.specs.declared.Scanned.{Scanned}
+use Rattle.reader.specs.declared.Scanned.the-variants.{Marks, Stopped}
 use Rattle.reader.specs.Reading.{faultNumber, numbered, parse, judge, read}
-use Rattle.reader.specs.Answer.{refusedWith, refusedReading, readOutcome as answerOutcome, settled as answered}
+use Rattle.reader.specs.Answer.{refusedWith, scanOutcome, ScanIndexed, ScanReceived, scannedIf, refusedReading, readOutcome as answerOutcome, settled as answered}
 use Rattle.reader.proofs.Grow.{grown}
-use Rattle.reader.specs.Index.{spans, Indexed, Spanned, Received}
+use Rattle.reader.specs.Index.{admitted, allow, spans, Indexed, Spanned, Received}
 use Rattle.reader.proofs.Turn.{spans-met}
 
 -- n elements of s from place i on, one by one
@@ -217,14 +219,37 @@ pub with-fault : (f : Fault) (r : Reading) (o : Result Fault TransportParameters
     → (answerOutcome r, r .parameters) ≡ answered (numbered o)
 with-fault f r o e h = rw (e, h, fault-number f)
 
-pub read-stopped : (side : Side) (src : List ℕ) (f : Fault) (r : Reading) → r ≡ refusedReading f → refused f ≡ parse noValues src
-    → (answerOutcome r, r .parameters) ≡ answered (read side src)
-unfolding read
-read-stopped side src f r e h = with-fault f r (andThen (parse noValues src) (judge side)) e (rw (← h))
+-- the record of what was admitted
+abbrev recorded : Result Fault Values → Result Fault TransportParameters
+recorded (accepted l) = accepted (recordOf l)
+recorded (refused f) = refused f
 
-pub read-judged : (side : Side) (src : List ℕ) (l : Values) → accepted l ≡ parse noValues src → read side src ≡ numbered (judge side l)
-unfolding read
-read-judged side src l h = rw (← h)
+read-recorded : (s : Side) (bs : List ℕ) → read s bs ≡ numbered (recorded (admitted s bs))
+unfolding read admitted judge allow
+read-recorded s bs = go (parse noValues bs)
+  where
+    one : (b : Bool) (l : Values) → numbered (pick b (accepted (recordOf l)) (refused Illegal)) ≡ numbered (recorded (pick b (accepted l) (refused Illegal)))
+    one true l = refl
+    one false l = refl
+
+    go : (o : Result Fault Values) → numbered (andThen o (judge s)) ≡ numbered (recorded (andThen o (allow s)))
+    go (accepted l) = one (valueRules s (recordOf l)) l
+    go (refused f) = refl
+
+pub read-stopped : (side : Side) (src : List ℕ) (f : Fault) (r : Reading) → r ≡ refusedReading f → refused f ≡ admitted side src
+    → (answerOutcome r, r .parameters) ≡ answered (read side src)
+read-stopped side src f r e h = with-fault f r (recorded (admitted side src)) e (rw (← h)) ∙ ap answered (sym (read-recorded side src))
+
+pub read-admitted : (side : Side) (src : List ℕ) (l : Values) → accepted l ≡ admitted side src → read side src ≡ accepted (recordOf l)
+read-admitted side src l h = read-recorded side src ∙ rw (← h)
+
+pub admitted-stopped : (side : Side) (src : List ℕ) (f : Fault) → refused f ≡ parse noValues src → refused f ≡ admitted side src
+unfolding admitted
+admitted-stopped side src f h = rw (← h)
+
+pub admitted-judged : (side : Side) (src : List ℕ) (l : Values) → accepted l ≡ parse noValues src → admitted side src ≡ allow side l
+unfolding admitted
+admitted-judged side src l h = rw (← h)
 
 -- what was scanned without a fault
 pub received : (src : List ℕ) (m : ℕ) (n from to : List ℕ) → Bytes src → Indexed src m n from to → accepted (spans src m from to) ≡ parse noValues src
@@ -233,13 +258,35 @@ received src m n from to hb i e =
     let g = grown (spans src m from to) src hb (sym e) .0 in
     record { indexed = i; fit = λ p h. subst (IfSome (Fits (kindAt p))) (span-in src m from to p h) (g p) .fit }
 
-pub rules-broken : (side : Side) (l : Values) → false ≡ valueRules side (recordOf l) → judge side l ≡ refused Illegal
-unfolding judge
-rules-broken side l h = rw (← h)
+pub kept : (t : Bool) (m : ℕ) → true ≡ t → Marks m ≡ scannedIf t m
+kept t m e = rw (← e)
 
-pub rules-kept : (side : Side) (l : Values) → true ≡ valueRules side (recordOf l) → judge side l ≡ accepted (recordOf l)
-unfolding judge
-rules-kept side l h = rw (← h)
+pub broken : (t : Bool) (m : ℕ) → false ≡ t → Stopped Illegal ≡ scannedIf t m
+broken t m e = rw (← e)
 
-pub read-record : (r s : TransportParameters) (o : Result Fault TransportParameters) → r ≡ s → o ≡ accepted s → (accepted r, r) ≡ answered (numbered o)
+module _ (side : Side) (src : List ℕ) (r : Scanned) (n from to : List ℕ) (e : scanOutcome src r from to ≡ parse noValues src) where
+  pub index-stopped : (f : Fault) → r ≡ Stopped f → (refused f ≡ admitted side src) × Unit {0}
+  index-stopped f q = (admitted-stopped side src f (sym (ap (λ (x : Scanned). scanOutcome src x from to) q) ∙ e), tt)
+
+  module _ (hb : Bytes src) (i : ScanIndexed src r n from to) (m : ℕ) (q : r ≡ Marks m) where
+    scanned : accepted (spans src m from to) ≡ parse noValues src
+    scanned = sym (ap (λ (x : Scanned). scanOutcome src x from to) q) ∙ e
+
+    pub scan-received : Received src m n from to
+    scan-received = received src m n from to hb (subst (λ (x : Scanned). ScanIndexed src x n from to) q i) scanned
+
+    pub index-judged : (x : Scanned) → x ≡ scannedIf (valueRules side (recordOf (spans src m from to))) m
+        → (scanOutcome src x from to ≡ admitted side src) × ScanReceived src x n from to
+    unfolding allow
+    index-judged x ex =
+        let g = go (valueRules side (recordOf (spans src m from to))) in
+        subst (λ (y : Scanned). (scanOutcome src y from to ≡ admitted side src) × ScanReceived src y n from to) (sym ex)
+        (g .0 ∙ sym (admitted-judged side src (spans src m from to) scanned), g .1)
+      where
+        go : (t : Bool) → (scanOutcome src (scannedIf t m) from to ≡ pick t (accepted (spans src m from to)) (refused Illegal))
+            × ScanReceived src (scannedIf t m) n from to
+        go true = (refl, scan-received)
+        go false = (refl, tt)
+
+pub read-record : (r s : TransportParameters) (o : Outcome TransportParameters) → r ≡ s → o ≡ accepted s → (accepted r, r) ≡ answered o
 read-record r s o e h = rw (e, h)

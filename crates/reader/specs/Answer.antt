@@ -21,7 +21,7 @@ use Rattle.reader.specs.declared.Value.{Value}
 use Rattle.reader.specs.declared.Value.the-variants.{Fits, Wrong}
 use Rattle.reader.specs.declared.Scanned.{Scanned}
 use Rattle.reader.specs.declared.Scanned.the-variants.{Marks, Stopped}
-use Rattle.reader.specs.Index.{spans, Indexed}
+use Rattle.reader.specs.Index.{spans, Indexed, Received}
 
 abbrev pub refusedWith : Fault → Refusal
 refusedWith Cut = Malformed
@@ -54,6 +54,15 @@ scanOutcome s (Stopped f) from to = refused f
 abbrev pub ScanIndexed : List ℕ → Scanned → List ℕ → List ℕ → List ℕ → Type 0
 ScanIndexed s (Marks m) numbers from to = Indexed s m numbers from to
 ScanIndexed s (Stopped f) numbers from to = Unit {0}
+
+-- what was kept of an input in which nothing is at fault
+abbrev pub ScanReceived : List ℕ → Scanned → List ℕ → List ℕ → List ℕ → Type 0
+ScanReceived s (Marks m) numbers from to = Received s m numbers from to
+ScanReceived s (Stopped f) numbers from to = Unit {0}
+
+-- the value rules hold, or they do not
+abbrev pub scannedIf : Bool → ℕ → Scanned
+scannedIf t m = pick t (Marks m) (Stopped Illegal)
 
 -- the answer joined by the record
 abbrev pub withRecord : TransportParameters → Answer → Outcome TransportParameters

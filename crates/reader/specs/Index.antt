@@ -1,18 +1,28 @@
--- What the scan keeps of the values received: a mask of places met, where each value stands in the input, and each number.
+-- The values received of a whole extension, and what the scan keeps of them: a mask of places met, where each value stands in the
+-- input, and each number.
 use Prim.Native.Nat.{ℕ, _-_, _≤_}
 use mathlib.Core.Path.{_≡_}
 use mathlib.Core.List.{List, [], _∷_, _++_}
 use mathlib.Core.Option.{Option, none, some}
 use mathlib.Core.Bool.{Bool, true, _&&_, not}
 use lib.ListN.{length, getD, take, drop, replicate}
-use Rattle.refusal.specs.Outcome.{Result, accepted, refused, pick}
+use Rattle.refusal.specs.Outcome.{Result, accepted, refused, pick, andThen}
 use Rattle.varint.specs.Number.{readNumber}
 use Rattle.marks.specs.Mark.{marked}
 use Rattle.parameters.specs.Catalogue.{Kind, number, flag, cid, token, address, reserved, kindAt, defaults, fits, illegal}
-use Rattle.parameters.specs.Values.{Values, value, numberIn}
+use Rattle.parameters.specs.declared.Side.{Side}
+use Rattle.parameters.specs.Values.{Values, noValues, value, numberIn, recordOf}
+use Rattle.parameters.specs.Record.{valueRules}
 use Rattle.reader.specs.declared.Fault.{Fault}
 use Rattle.reader.specs.declared.Fault.the-variants.{SecondCopy, Misfit, Illegal}
-use Rattle.reader.specs.Reading.{mayRepeat}
+use Rattle.reader.specs.Reading.{mayRepeat, parse}
+
+-- the values, if the value rules hold of their record
+unfoldable pub allow : Side → Values → Result Fault Values
+allow s l = pick (valueRules s (recordOf l)) (accepted l) (refused Illegal)
+
+unfoldable pub admitted : Side → List ℕ → Result Fault Values
+admitted s bs = andThen (parse noValues bs) (allow s)
 
 -- the values of the places marked: the bytes of the input from one position to another
 unfoldable pub spans : List ℕ → ℕ → List ℕ → List ℕ → Values

@@ -12,9 +12,9 @@ ghost use Rattle.marks.specs.Mark.{marked};
 ghost use Rattle.parameters.specs.Catalogue.{number, flag, cid, token, address, fits};
 ghost use Rattle.parameters.specs.Values.{noValues, cidIn, tokenIn, addressIn, familyIn, toV4, toV6, recordOf};
 ghost use Rattle.parameters.specs.Record.{valueRules};
-ghost use Rattle.reader.specs.Reading.{numbered, mayRepeat, readParameter, parse, judge, read};
-ghost use Rattle.reader.specs.Index.{spans, checkKind, checkValue, receiveValue, initialNumbers, Spanned, Received};
-ghost use Rattle.reader.specs.Answer.{parameterOutcome, Within, valueOutcome, scanOutcome, ScanIndexed, readOutcome, settled, refusedWith, refusedReading, judged};
+ghost use Rattle.reader.specs.Reading.{mayRepeat, readParameter, parse, read};
+ghost use Rattle.reader.specs.Index.{admitted, spans, checkKind, checkValue, receiveValue, initialNumbers, Spanned, Received};
+ghost use Rattle.reader.specs.Answer.{parameterOutcome, Within, valueOutcome, scanOutcome, ScanIndexed, ScanReceived, scannedIf, readOutcome, settled, refusedWith, refusedReading, judged};
 use connection_id::ConnectionId;
 use parameters::Microseconds;
 use parameters::OptionalConnectionId;
@@ -68,8 +68,8 @@ enum Value {
     Wrong(Fault),
 }
 
-// What a scan found: the mask of places met, or what is wrong.
-enum Scanned {
+// What was found in an extension: the mask of places met, or what is wrong.
+pub enum Scanned {
     Marks(u32),
     Stopped(Fault),
 }
@@ -529,6 +529,7 @@ fn is_allowed(
     )
 }
 
+// What the scan kept, if the value rules hold of it.
 fn judge(
     side: Side,
     src: &[u8],
@@ -536,26 +537,23 @@ fn judge(
     n: &[u64; 21],
     from: &[usize; 21],
     to: &[usize; 21],
-) -> Reading
+) -> Scanned
     requires { ⌜ Received (now src) marks (now n) (now from) (now to) ⌝ }
-    ensures { λ r. ⌜ (readOutcome r, r .parameters) ≡ settled (numbered (judge side (spans (now (src .entry)) marks (now (from .entry)) (now (to .entry))))) ⌝ }
+    ensures { λ r. ⌜ r ≡ scannedIf (valueRules side (recordOf (spans (now (src .entry)) marks (now (from .entry)) (now (to .entry))))) marks ⌝ }
 {
-    if !is_allowed(side, src, marks, n, from, to) {
-        return refuse(Fault::Illegal);
-    }
-    let parameters = record_of(src, marks, n, from, to);
-    Reading {
-        answer: Answer::Accepted,
-        parameters,
+    if is_allowed(side, src, marks, n, from, to) {
+        Scanned::Marks(marks)
+    } else {
+        Scanned::Stopped(Fault::Illegal)
     }
 }
 
-// Reads an extension for a side: the first fault from the front, then the value rules.
-pub fn read(side: Side, src: &[u8]) -> Reading
-    ensures { λ r. ⌜ (readOutcome r, r .parameters) ≡ settled (read side (now (src .entry))) ⌝ }
+// Sets the three to what they are before anything is received.
+fn reset(numbers: &mut [u64; 21], from: &mut [usize; 21], to: &mut [usize; 21])
+    ensures { λ r. ⌜ (now (numbers .exit) ≡ initialNumbers) × (now (from .exit) ≡ replicate 21 0) × (now (to .exit) ≡ replicate 21 0) ⌝ }
 {
-    let mut numbers = [
-        0u64,
+    *numbers = [
+        0,
         65527,
         0,
         0,
@@ -577,10 +575,43 @@ pub fn read(side: Side, src: &[u8]) -> Reading
         0,
         0,
     ];
+    *from = [0; 21];
+    *to = [0; 21];
+}
+
+// Goes through an extension for a side: the first fault from the front, then the value rules. `numbers` gets each number by place, `from`
+// and `to` where each value stands.
+pub fn index(
+    side: Side,
+    src: &[u8],
+    numbers: &mut [u64; 21],
+    from: &mut [usize; 21],
+    to: &mut [usize; 21],
+) -> Scanned
+    ensures { λ r. ⌜ (scanOutcome (now (src .entry)) r (now (from .exit)) (now (to .exit)) ≡ admitted side (now (src .entry))) × ScanReceived (now (src .entry)) r (now (numbers .exit)) (now (from .exit)) (now (to .exit)) ⌝ }
+{
+    reset(numbers, from, to);
+    match scan(src, numbers, from, to) {
+        Scanned::Stopped(fault) => Scanned::Stopped(fault),
+        Scanned::Marks(met) => judge(side, src, met, numbers, from, to),
+    }
+}
+
+// Reads an extension for a side.
+pub fn read(side: Side, src: &[u8]) -> Reading
+    ensures { λ r. ⌜ (readOutcome r, r .parameters) ≡ settled (read side (now (src .entry))) ⌝ }
+{
+    let mut numbers = [0u64; 21];
     let mut from = [0usize; 21];
     let mut to = [0usize; 21];
-    match scan(src, &mut numbers, &mut from, &mut to) {
+    match index(side, src, &mut numbers, &mut from, &mut to) {
         Scanned::Stopped(fault) => refuse(fault),
-        Scanned::Marks(met) => judge(side, src, met, &numbers, &from, &to),
+        Scanned::Marks(met) => {
+            let parameters = record_of(src, met, &numbers, &from, &to);
+            Reading {
+                answer: Answer::Accepted,
+                parameters,
+            }
+        }
     }
 }
