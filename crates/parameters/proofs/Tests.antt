@@ -17,7 +17,7 @@ use Rattle.connection_id.specs.ConnectionId.{zeros, formedCid}
 use Rattle.parameters.specs.declared.PreferredAddress.{PreferredAddress}
 use Rattle.parameters.specs.Values.{ofV4, ofV6}
 use Rattle.parameters.specs.Catalogue.{placeOf, ids, indexOf}
-use Rattle.parameters.specs.Record.{every, unspecified, formedFamily, formedToken, formedAddress}
+use Rattle.parameters.specs.Record.{every, formedFamily, formedToken, formedAddress}
 
 pub and-assoc : (s t u : Bool) → (s && (t && u)) ≡ ((s && t) && u)
 and-assoc true t u = refl
@@ -98,25 +98,14 @@ pub not-false : (b : Bool) → not b ≡ false → b ≡ true
 not-false true h = refl
 not-false false h = sym h
 
--- what is left of a well-formed address, given what the types say
-pub address-formed : (a : PreferredAddress) → length (a .«address_v4» .ip) ≡ 4 → length (a .«address_v6» .ip) ≡ 16
-    → length (a .«stateless_reset_token» .bytes) ≡ 16 → a .«address_v4» .port < 65536 → a .«address_v6» .port < 65536
+-- what is left of a well-formed address, given what the type of its token says
+pub address-formed : (a : PreferredAddress) → length (a .«stateless_reset_token» .bytes) ≡ 16
     → formedAddress a
-    ≡ ((a .«address_v4» .present || unspecified (ofV4 (a .«address_v4»)))
-    && ((a .«address_v6» .present || unspecified (ofV6 (a .«address_v6»)))
+    ≡ (formedFamily 4 (ofV4 (a .«address_v4»))
+    && (formedFamily 16 (ofV6 (a .«address_v6»))
     && (formedCid (a .«connection_id»)
     && (a .present
     || (not (a .«address_v4» .present)
     && (not (a .«address_v6» .present) && (eqb (a .«connection_id» .len) 0 && zeros (a .«stateless_reset_token» .bytes))))))))
-unfolding formedAddress formedFamily formedToken all
-address-formed a l4 l6 lt p4 p6 =
-    rw (
-      l4,
-      l6,
-      lt,
-      lt-ltb _ _ p4,
-      lt-ltb _ _ p6,
-      and-true (a .«address_v4» .present || unspecified (ofV4 (a .«address_v4»))),
-      and-true (a .«address_v6» .present || unspecified (ofV6 (a .«address_v6»))),
-    )
-    (simp and-true)
+unfolding formedAddress formedToken all
+address-formed a h = rw h (simp and-true)

@@ -6,11 +6,11 @@ ghost use Rattle.refusal.specs.Outcome.{pick};
 ghost use lib.ListN.{length, drop};
 ghost use lib.Dec.{leb, ltb, eqb};
 ghost use Rattle.varint.specs.Number.{bound};
-ghost use Rattle.connection_id.specs.ConnectionId.{zeros};
+ghost use Rattle.connection_id.specs.ConnectionId.{zeros, formedCid};
 ghost use Rattle.parameters.specs.Catalogue.{placeOf, idAt};
 ghost use Rattle.parameters.specs.Values.{ofV4, ofV6};
 ghost use Rattle.parameters.specs.Record.{every, isServer, least, unspecified, formedOptional, formedOptionalCid, formedOptionalToken, formedToken, formedFamily, formedAddress, formedReserved, formedOrder, wellFormed, numberRules, presenceRules, valueRules, familyRules, checkRecord, defaultRecord};
-ghost use Rattle.parameters.specs.Answer.{checkOutcome};
+ghost use Rattle.parameters.specs.Answer.{checkOutcome, cidFrom, optionalCid, optionalToken, reservedFrom, orderFrom};
 use connection_id::ConnectionId;
 use refusal::Refusal;
 use varint::VarInt;
@@ -245,7 +245,7 @@ fn zero21(b: &[u8; 21]) -> bool
     acc == 0
 }
 
-// Whether all bytes from `n` on are zero.
+// Each tells whether all bytes from `n` on are zero.
 fn zero16_from(b: &[u8; 16], n: usize) -> bool
     requires { ⌜ length (now b) ≡ 16 ⌝ }
     ensures { λ r. ⌜ r ≡ zeros (drop n (now (b .entry))) ⌝ }
@@ -253,6 +253,19 @@ fn zero16_from(b: &[u8; 16], n: usize) -> bool
     let mut acc: u8 = 0;
     let mut i = n;
     while i < ReservedTransportParameter::MAX_PAYLOAD_LEN {
+        acc = acc | b[i];
+        i += 1;
+    }
+    acc == 0
+}
+
+fn zero20_from(b: &[u8; 20], n: usize) -> bool
+    requires { ⌜ length (now b) ≡ 20 ⌝ }
+    ensures { λ r. ⌜ r ≡ zeros (drop n (now (b .entry))) ⌝ }
+{
+    let mut acc: u8 = 0;
+    let mut i = n;
+    while i < ConnectionId::MAX_SIZE {
         acc = acc | b[i];
         i += 1;
     }
@@ -281,19 +294,41 @@ fn formed_number(o: OptionalNumber) -> bool
     }
 }
 
-fn formed_cid(o: OptionalConnectionId) -> bool
-    ensures { λ r. ⌜ r ≡ formedOptionalCid o ⌝ }
+// A structure is handed over by its fields, as the whole would be copied.
+fn formed_id(len: u8, bytes: &[u8; 20]) -> bool
+    requires { ⌜ length (now bytes) ≡ 20 ⌝ }
+    ensures { λ r. ⌜ r ≡ formedCid (cidFrom len (now (bytes .entry))) ⌝ }
 {
-    let c = o.cid;
-    and(c.is_well_formed(), or(o.present, c.len == 0))
+    let n = len as usize;
+    and(n <= ConnectionId::MAX_SIZE, zero20_from(bytes, n))
 }
 
-fn formed_token(o: OptionalResetToken) -> bool
-    ensures { λ r. ⌜ r ≡ formedOptionalToken o ⌝ }
+fn formed_cid(present: bool, len: u8, bytes: &[u8; 20]) -> bool
+    requires { ⌜ length (now bytes) ≡ 20 ⌝ }
+    ensures { λ r. ⌜ r ≡ formedOptionalCid (optionalCid present len (now (bytes .entry))) ⌝ }
 {
-    let t = o.token;
-    let b = t.bytes;
-    or(o.present, zero16(&b))
+    and(formed_id(len, bytes), or(present, len == 0))
+}
+
+fn formed_token(present: bool, bytes: &[u8; 16]) -> bool
+    requires { ⌜ length (now bytes) ≡ 16 ⌝ }
+    ensures { λ r. ⌜ r ≡ formedOptionalToken (optionalToken present (now (bytes .entry))) ⌝ }
+{
+    or(present, zero16(bytes))
+}
+
+fn formed_v4(present: bool, ip: &[u8; 4], port: u16) -> bool
+    requires { ⌜ length (now ip) ≡ 4 ⌝ }
+    ensures { λ r. ⌜ r ≡ formedFamily 4 (present, now (ip .entry), port) ⌝ }
+{
+    or(present, and(zero4(ip), port == 0))
+}
+
+fn formed_v6(present: bool, ip: &[u8; 16], port: u16) -> bool
+    requires { ⌜ length (now ip) ≡ 16 ⌝ }
+    ensures { λ r. ⌜ r ≡ formedFamily 16 (present, now (ip .entry), port) ⌝ }
+{
+    or(present, and(zero16(ip), port == 0))
 }
 
 // Whether a family is unspecified: an address of zeros and port 0.
@@ -311,33 +346,17 @@ fn unspecified_v6(a: SocketAddrV6) -> bool
     and(zero16(&b), a.port == 0)
 }
 
-fn formed_address(a: PreferredAddress) -> bool
-    ensures { λ r. ⌜ r ≡ formedAddress a ⌝ }
+fn formed_reserved(present: bool, id: u64, payload: &[u8; 16], payload_len: u8) -> bool
+    requires { ⌜ length (now payload) ≡ 16 ⌝ }
+    ensures { λ r. ⌜ r ≡ formedReserved (reservedFrom present id (now (payload .entry)) «payload_len») ⌝ }
 {
-    let v4 = a.address_v4;
-    let v6 = a.address_v6;
-    let c = a.connection_id;
-    let t = a.stateless_reset_token;
-    let b = t.bytes;
-    let absent = and(!v4.present, and(!v6.present, and(c.len == 0, zero16(&b))));
-    let rest = and(c.is_well_formed(), or(a.present, absent));
-    and(
-        or(v4.present, unspecified_v4(v4)),
-        and(or(v6.present, unspecified_v6(v6)), rest),
-    )
-}
-
-fn formed_reserved(x: ReservedTransportParameter) -> bool
-    ensures { λ r. ⌜ r ≡ formedReserved x ⌝ }
-{
-    let n = x.payload_len as usize;
-    let b = x.payload;
+    let n = payload_len as usize;
     let rest = and(
-        zero16_from(&b, n),
-        reserved_head(x.present, x.id, x.payload_len),
+        zero16_from(payload, n),
+        reserved_head(present, id, payload_len),
     );
     and(
-        x.id <= VarInt::MAX.0,
+        id <= VarInt::MAX.0,
         and(n <= ReservedTransportParameter::MAX_PAYLOAD_LEN, rest),
     )
 }
@@ -353,11 +372,11 @@ fn reserved_head(present: bool, id: u64, len: u8) -> bool
     }
 }
 
-fn formed_order(o: WriteOrder) -> bool
-    ensures { λ r. ⌜ r ≡ formedOrder o ⌝ }
+fn formed_order(present: bool, places: &[u8; 21]) -> bool
+    requires { ⌜ length (now places) ≡ 21 ⌝ }
+    ensures { λ r. ⌜ r ≡ formedOrder (orderFrom present (now (places .entry))) ⌝ }
 {
-    let b = o.places;
-    or(o.present, zero21(&b))
+    or(present, zero21(places))
 }
 
 // The value rules of the numbers, with the minimum delay (0 if there is none).
@@ -513,25 +532,78 @@ impl TransportParameters {
     pub fn is_well_formed(self) -> bool
         ensures { λ r. ⌜ r ≡ wellFormed self ⌝ }
     {
-        let n = self.numbers;
-        let x = self.grease_transport_parameter;
-        let t = self.stateless_reset_token;
+        let numbers = self.numbers;
+        let payload = self.grease_transport_parameter.payload;
+        let token = self.stateless_reset_token.token.bytes;
         let d = self.max_datagram_frame_size;
-        let a = self.preferred_address;
-        let o1 = self.original_dst_cid;
-        let o2 = self.initial_src_cid;
-        let o3 = self.retry_src_cid;
+        let b1 = self.original_dst_cid.cid.bytes;
+        let b2 = self.initial_src_cid.cid.bytes;
+        let b3 = self.retry_src_cid.cid.bytes;
         let m = self.min_ack_delay;
-        let w = self.write_order;
-        let rest = and(formed_number(m), formed_order(w));
-        let cids = and(
-            formed_cid(o1),
-            and(formed_cid(o2), and(formed_cid(o3), rest)),
+        let places = self.write_order.places;
+        let rest = and(
+            formed_number(m),
+            formed_order(self.write_order.present, &places),
         );
-        let others = and(formed_number(d), and(formed_address(a), cids));
+        let cids = and(
+            formed_cid(
+                self.original_dst_cid.present,
+                self.original_dst_cid.cid.len,
+                &b1,
+            ),
+            and(
+                formed_cid(
+                    self.initial_src_cid.present,
+                    self.initial_src_cid.cid.len,
+                    &b2,
+                ),
+                and(
+                    formed_cid(self.retry_src_cid.present, self.retry_src_cid.cid.len, &b3),
+                    rest,
+                ),
+            ),
+        );
+        let others = and(formed_number(d), and(self.formed_address(), cids));
+        let reserved = formed_reserved(
+            self.grease_transport_parameter.present,
+            self.grease_transport_parameter.id,
+            &payload,
+            self.grease_transport_parameter.payload_len,
+        );
         and(
-            formed_numbers(&n),
-            and(formed_reserved(x), and(formed_token(t), others)),
+            formed_numbers(&numbers),
+            and(
+                reserved,
+                and(
+                    formed_token(self.stateless_reset_token.present, &token),
+                    others,
+                ),
+            ),
+        )
+    }
+
+    // Whether the preferred address is well formed.
+    fn formed_address(self) -> bool
+        ensures { λ r. ⌜ r ≡ formedAddress (self .«preferred_address») ⌝ }
+    {
+        let ip4 = self.preferred_address.address_v4.ip;
+        let ip6 = self.preferred_address.address_v6.ip;
+        let id = self.preferred_address.connection_id.bytes;
+        let token = self.preferred_address.stateless_reset_token.bytes;
+        let v4 = self.preferred_address.address_v4.present;
+        let v6 = self.preferred_address.address_v6.present;
+        let len = self.preferred_address.connection_id.len;
+        let absent = and(!v4, and(!v6, and(len == 0, zero16(&token))));
+        let rest = and(
+            formed_id(len, &id),
+            or(self.preferred_address.present, absent),
+        );
+        and(
+            formed_v4(v4, &ip4, self.preferred_address.address_v4.port),
+            and(
+                formed_v6(v6, &ip6, self.preferred_address.address_v6.port),
+                rest,
+            ),
         )
     }
 

@@ -6,8 +6,8 @@ use borrow.Author.Needs.{needs}
 use Rattle.parameters.proofs.formed_cid.Statement.{statement}
 use Rattle.parameters.proofs.formed_cid.Tie as tie
 
-is-well-formed-requires : tie.Need-is-well-formed-requires
-is-well-formed-requires c κs = search needs
+formed-id-requires : tie.Need-formed-id-requires
+formed-id-requires c κs = search needs
 
 or-requires : tie.Need-or-requires
 or-requires c κs = search needs
@@ -20,4 +20,4 @@ unfolding formedOptionalCid all
 returns c = simp and-true (cc)
 
 pub formed-cid-spec : {M : Type 1} → statement M
-formed-cid-spec = tie.close (tie.spec is-well-formed-requires or-requires and-requires returns)
+formed-cid-spec = tie.close (tie.spec formed-id-requires or-requires and-requires returns)

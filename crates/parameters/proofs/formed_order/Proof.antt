@@ -1,6 +1,4 @@
 -- `parameters::formed_order` meets its contract. Assumes nothing.
-use lib.ListN.{length}
-use mathlib.Core.Path.{_≡_}
 use Rattle.parameters.specs.Record.{formedOrder}
 use Rattle.refusal.specs.Outcome.{all}
 use Rattle.connection_id.proofs.Laws.{and-true}
@@ -16,7 +14,7 @@ or-requires c κs = search needs
 
 returns : tie.Need-returns
 unfolding formedOrder all
-returns c = let n : length (c .before .before .before .before .args .o .places) ≡ 21 = search needs in simp (n, and-true) (cc)
+returns c = simp (c .before .before .pre, and-true) (cc)
 
 pub formed-order-spec : {M : Type 1} → statement M
 formed-order-spec = tie.close (tie.spec zero21-requires or-requires returns)

@@ -1,6 +1,4 @@
 -- `parameters::formed_reserved` meets its contract. Assumes nothing.
-use lib.ListN.{length}
-use mathlib.Core.Path.{_≡_}
 use Rattle.parameters.proofs.Tests.{at-most}
 use Rattle.parameters.specs.Record.{formedReserved}
 use Rattle.refusal.specs.Outcome.{all}
@@ -8,9 +6,6 @@ use Rattle.connection_id.proofs.Laws.{and-true}
 use borrow.Author.Needs.{needs}
 use Rattle.parameters.proofs.formed_reserved.Statement.{statement}
 use Rattle.parameters.proofs.formed_reserved.Tie as tie
-
-cast-n : tie.Need-cast-n
-cast-n c = search needs
 
 zero16-from-requires : tie.Need-zero16-from-requires
 zero16-from-requires c κs = search needs
@@ -29,13 +24,12 @@ and-requires-3 c κs = search needs
 
 returns : tie.Need-returns
 unfolding formedReserved all
-returns c = let n : length (c .before .before .before .before .before .before .before .before .before .before .args .x .payload) ≡ 16 = search needs in simp (n, and-true, ← at-most) (cc)
+returns c = simp (c .before .before .before .before .before .before .pre, and-true, ← at-most) (cc)
 
 pub formed-reserved-spec : {M : Type 1} → statement M
 formed-reserved-spec =
     tie.close
     (tie.spec
-    cast-n
     zero16-from-requires
     reserved-head-requires
     and-requires

@@ -1,6 +1,4 @@
 -- `parameters::formed_token` meets its contract. Assumes nothing.
-use lib.ListN.{length}
-use mathlib.Core.Path.{_≡_}
 use Rattle.parameters.specs.Record.{formedOptionalToken, formedToken}
 use Rattle.refusal.specs.Outcome.{all}
 use Rattle.connection_id.proofs.Laws.{and-true}
@@ -16,7 +14,7 @@ or-requires c κs = search needs
 
 returns : tie.Need-returns
 unfolding formedOptionalToken formedToken all
-returns c = let n : length (c .before .before .before .before .before .args .o .token .bytes) ≡ 16 = search needs in simp (n, and-true) (cc)
+returns c = simp (c .before .before .pre, and-true) (cc)
 
 pub formed-token-spec : {M : Type 1} → statement M
 formed-token-spec = tie.close (tie.spec zero16-requires or-requires returns)
