@@ -314,9 +314,11 @@ unfolding addressOut built cidOf
 built-sent v x y n c t p =
     rw (fam-same 4 x (p .hx) (p .bx), fam-same 16 y (p .hy) (p .by), cid-same c, p .hc, p .is)
 
-pub address-short : (o : Option (List ℕ)) → IfSome (Fits address) o → Shorter (addressOut (addressIn o)) o
+-- an address that was read is sent as it came
+pub address-kept : (o : Option (List ℕ)) → IfSome (Fits address) o → addressOut (addressIn o) ≡ o
 unfolding addressOut addressIn
-address-short none f id = omega arith
-address-short (some v) f id = read-parts v f λ x y n c t p.
-    let q : addressOut (addressIn (some v)) ≡ some v = ap addressOut (read-address v x y n c t p) ∙ built-sent v x y n c t p in
-    le-of-eq (ap (λ o. length (parameterIf id o)) q)
+address-kept none f = refl
+address-kept (some v) f = read-parts v f λ x y n c t p. ap addressOut (read-address v x y n c t p) ∙ built-sent v x y n c t p
+
+pub address-short : (o : Option (List ℕ)) → IfSome (Fits address) o → Shorter (addressOut (addressIn o)) o
+address-short o f id = le-of-eq (ap (λ o. length (parameterIf id o)) (address-kept o f))

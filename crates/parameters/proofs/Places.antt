@@ -119,7 +119,7 @@ pub number-kind : (p : ℕ) → p < 11 → kindAt p ≡ number
 unfolding kindAt kinds
 number-kind p h = List·getD-append (replicate 11 number) otherKinds reserved p h ∙ getD-replicate 11 p number reserved h
 
-default-lt : (p : ℕ) → p < 11 → getD defaults p 0 < 2 ^ 62
+pub default-lt : (p : ℕ) → p < 11 → getD defaults p 0 < 2 ^ 62
 unfolding defaults
 default-lt p h = ltb-true _ _ (below-at 11 (λ p. ltb (getD defaults p 0) (2 ^ 62)) refl p h)
 

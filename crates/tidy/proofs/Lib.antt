@@ -1,2 +1,3 @@
+pub mod Due
+pub mod Pieces
 pub mod Laws
-pub mod Answers

@@ -1,52 +1,69 @@
--- `tidy::tidy` meets its contract: what was read is written. Assumes nothing.
-use Rattle.tidy.proofs.Answers.{not-read, read-and-written}
-use Rattle.reader.specs.Answer.{withRecord}
-use mathlib.Core.Path.{_≡_, refl, ap, sym, _∙_}
+-- `tidy::tidy` meets its contract. Assumes nothing.
 use borrow.Author.Needs.{needs}
+use mathlib.Core.Path.{_≡_, ap, sym, _∙_, subst}
+use Rattle.refusal.specs.Outcome.{accepted}
+use Rattle.reader.specs.declared.Scanned.{Scanned}
+use Rattle.reader.specs.Index.{admitted, spans, Received}
+use Rattle.reader.specs.Answer.{scanOutcome, ScanReceived}
+use Rattle.tidy.proofs.Pieces.{kept, admitted-good, not-read, read-and-written}
 use Rattle.tidy.proofs.tidy.Statement.{statement}
 use Rattle.tidy.proofs.tidy.Tie as tie
 
-read-requires : tie.Need-read-requires
-read-requires c κs = search needs
+index-requires : tie.Need-index-requires
+index-requires c κs = search needs
 
-enum-known-answer : tie.Need-enum-known-answer
-enum-known-answer c = search needs
+enum-known-fault : tie.Need-enum-known-fault
+enum-known-fault c = search needs
 
-enum-told : tie.Need-enum-told
-enum-told c = search needs
+refusal-requires : tie.Need-refusal-requires
+refusal-requires c κs = search needs
 
-write-requires : tie.Need-write-requires
-write-requires c κs = search needs
+enum-known-met : tie.Need-enum-known-met
+enum-known-met c = search needs
 
-finish-requires : tie.Need-finish-requires
-finish-requires c κs = search needs
+-- what was found, and that it was admitted
+received : (c : tie.After-known-told2) → let x = c .before .before .before .index in
+    Received (c .before .before .before .before .before .before .before .before .before .args .src .now) (c .before .met .given .0 .0) (x .last .1 .1 .0) (x .last .1 .1 .1 .0) (x .last .1 .1 .1 .1 .0)
+received c =
+    let x = c .before .before .before .index in
+    subst (λ (r : Scanned). ScanReceived (c .before .before .before .before .before .before .before .before .before .args .src .now) r (x .last .1 .1 .0) (x .last .1 .1 .1 .0) (x .last .1 .1 .1 .1 .0)) (c .before .met .given .1) (x .ensures .1)
+
+accepts : (c : tie.After-known-told2) → let x = c .before .before .before .index in let a = c .before .before .before .before .before .before .before .before .before .args in
+    accepted (spans (a .src .now) (c .before .met .given .0 .0) (x .last .1 .1 .1 .0) (x .last .1 .1 .1 .1 .0)) ≡ admitted (a .side) (a .src .now)
+accepts c =
+    let x = c .before .before .before .index in
+    sym (ap (λ (r : Scanned). scanOutcome (c .before .before .before .before .before .before .before .before .before .args .src .now) r (x .last .1 .1 .1 .0) (x .last .1 .1 .1 .1 .0)) (c .before .met .given .1)) ∙ x .ensures .0
+
+put-requires : tie.Need-put-requires
+put-requires c κs =
+    let d = c .before .before .before .before in
+    let a = d .before .before .before .before .before .before .before .before .before .args in
+    kept (a .src .now) _ _ _ _ (received d) (admitted-good (a .side) (a .src .now) _ (λ i. d .before .before .before .before .before .before .before .before .shared-slice-known .given i .fits) (accepts d))
 
 returns : tie.Need-returns
 returns c =
-    let a = c .before .before .before .before .before .before .args in
-    let x = c .before .before .before .read in
-    let e = sym (ap (withRecord (x .result .parameters)) (c .before .answer .given .1)) ∙ ap (λ p. p .0) (x .ensures) in
-    not-read (a .side) (a .src .now) (a .out .now) _ e
+    let x = c .before .before .before .before .index in
+    let a = c .before .before .before .before .before .before .before .before .before .before .args in
+    not-read (a .side) (a .src .now) (a .out .now) _ _ (c .refusal .ensures) (sym (ap (λ (r : Scanned). scanOutcome (a .src .now) r (x .last .1 .1 .1 .0) (x .last .1 .1 .1 .1 .0)) (c .before .before .fault .given .1)) ∙ x .ensures .0)
 
 same-length : tie.Need-same-length
 same-length c = search needs
 
 returns-2 : tie.Need-returns-2
 returns-2 c =
-    let a = c .before .before .before .before .before .before .before .before .before .before .before .args in
-    let x = c .before .before .before .before .before .before .before .before .read in
-    let e = sym (ap (withRecord (x .result .parameters)) (c .before .before .before .before .before .before .enum-told .given .1)) ∙ ap (λ p. p .0) (x .ensures) in
-    read-and-written (a .side) (a .src .now) (a .out .now) _ _ (c .before .before .before .write .result) _ (λ k. c .before .before .before .before .before .before .before .before .before .before .shared-slice-known .given k .fits) e (c .before .before .before .write .ensures) (c .finish .ensures)
+    let d = c .before .before .before .before .before .before .before in
+    let a = d .before .before .before .before .before .before .before .before .before .args in
+    c .before .before .put .ensures ∙ read-and-written (a .side) (a .src .now) _ _ _ _ (a .out .now) (λ i. d .before .before .before .before .before .before .before .before .shared-slice-known .given i .fits) (received d) (accepts d)
 
 pub tidy-spec : {M : Type 1} → statement M
 tidy-spec =
     tie.close
     (tie.spec
-    read-requires
-    enum-known-answer
-    enum-told
-    write-requires
-    finish-requires
+    index-requires
+    enum-known-fault
+    refusal-requires
+    enum-known-met
+    put-requires
     returns
     same-length
     returns-2)
