@@ -9,7 +9,14 @@ fn run(command: &mut Command) {
     assert!(command.status().is_ok_and(|s| s.success()), "{command:?} failed");
 }
 
+/// What the compiler says of itself, as `rustc 1.95.0`.
+fn compiler() -> String {
+    let out = Command::new(env::var("RUSTC").unwrap()).arg("--version").output().expect("rustc runs");
+    String::from_utf8_lossy(&out.stdout).split(' ').take(2).collect::<Vec<_>>().join(" ")
+}
+
 fn main() {
+    println!("cargo:rustc-env=COMPILER={}", compiler());
     let library = oracle::link();
     println!("cargo:rerun-if-changed={}", library.join("libtiming.a").display());
     let out = PathBuf::from(env::var("OUT_DIR").unwrap());

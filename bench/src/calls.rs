@@ -5,7 +5,10 @@ use crate::{
     samples::{Sample, ordered},
     transport_parameters::TransportParameters,
 };
-use std::hint::black_box;
+use std::{
+    ffi::{CStr, c_char},
+    hint::black_box,
+};
 
 #[derive(Clone, Copy, PartialEq, Eq, Debug)]
 pub enum Op {
@@ -28,11 +31,39 @@ pub enum Who {
     Ngtcp2,
 }
 
+impl Op {
+    pub fn name(self) -> &'static str {
+        match self {
+            Op::Read => "read",
+            Op::Write => "write",
+            Op::Ordered => "write in an order",
+            Op::Tidy => "tidy",
+        }
+    }
+
+    /// Whether it takes a record, and not bytes.
+    fn writes(self) -> bool {
+        matches!(self, Op::Write | Op::Ordered)
+    }
+}
+
+impl Who {
+    pub fn name(self) -> &'static str {
+        match self {
+            Who::Quinn => "quinn",
+            Who::Rattle => "Yuthpram",
+            Who::Interface => "through C",
+            Who::Ngtcp2 => "ngtcp2",
+        }
+    }
+}
+
 pub const OPS: [Op; 4] = [Op::Read, Op::Write, Op::Ordered, Op::Tidy];
 pub const ALL: [Who; 4] = [Who::Quinn, Who::Rattle, Who::Interface, Who::Ngtcp2];
 
 unsafe extern "C" {
     fn timing_read(src: *const u8, src_len: usize, place: usize) -> u64;
+    fn timing_refusal(src: *const u8, src_len: usize) -> u8;
     fn timing_write(record: *const u8, record_len: usize, times: usize, out: *mut u8, out_len: usize) -> usize;
     fn timing_tidy(src: *const u8, src_len: usize, out: *mut u8, out_len: usize) -> usize;
     fn yuthpram_read(side: u8, src: *const u8, src_len: usize, record: *mut u8, record_len: usize) -> u8;
@@ -40,16 +71,21 @@ unsafe extern "C" {
     fn yuthpram_tidy(side: u8, src: *const u8, src_len: usize, out: *mut u8, out_len: usize, count: *mut usize) -> u8;
     fn peer_read(src: *const u8, src_len: usize) -> i32;
     fn peer_write(out: *mut u8, out_len: usize) -> isize;
+    fn peer_version() -> *const c_char;
 }
 
 pub const ROOM: usize = 512;
 
 pub type Output = [u8; ROOM];
 
+// Neither is inlined, so that each function of quinn's has one caller and becomes a part of it: with more the compiler makes slower code.
+
+#[inline(never)]
 pub fn quinn_read(src: &[u8]) -> TransportParameters {
     TransportParameters::read(Side::Client, &mut &src[..]).expect("quinn reads it")
 }
 
+#[inline(never)]
 fn quinn_write(p: &TransportParameters, out: &mut Output) -> usize {
     let mut rest = &mut out[..];
     p.write(&mut rest);
@@ -62,16 +98,24 @@ fn record(op: Op, s: &Sample) -> [u8; image::RECORD] {
 }
 
 fn quinn(op: Op, s: &Sample, times: usize, out: &mut Output) -> usize {
-    let p = image::to_record(&record(op, s));
     let src = &s.bytes[..];
     let mut count = 0;
-    for _ in 0..times {
-        match op {
-            Op::Read => {
-                black_box(quinn_read(black_box(src)));
+    match op {
+        Op::Read => {
+            for _ in 0..times {
+                black_box(&quinn_read(black_box(src)));
             }
-            Op::Write | Op::Ordered => count = quinn_write(black_box(&p), black_box(out)),
-            Op::Tidy => count = quinn_write(&quinn_read(black_box(src)), black_box(out)),
+        }
+        Op::Write | Op::Ordered => {
+            let p = image::to_record(&record(op, s));
+            for _ in 0..times {
+                count = quinn_write(black_box(&p), black_box(out));
+            }
+        }
+        Op::Tidy => {
+            for _ in 0..times {
+                count = quinn_write(&quinn_read(black_box(src)), black_box(out));
+            }
         }
     }
     count
@@ -82,7 +126,7 @@ fn quinn(op: Op, s: &Sample, times: usize, out: &mut Output) -> usize {
 fn rattle(op: Op, s: &Sample, times: usize, out: &mut Output) -> usize {
     let (x, n, y) = (s.bytes.as_ptr(), s.bytes.len(), out.as_mut_ptr());
     let mut count = 0;
-    if matches!(op, Op::Write | Op::Ordered) {
+    if op.writes() {
         return unsafe { timing_write(record(op, s).as_ptr(), image::RECORD, times, y, ROOM) };
     }
     for _ in 0..times {
@@ -117,7 +161,7 @@ fn interface(op: Op, s: &Sample, times: usize, out: &mut Output) -> usize {
 
 fn ngtcp2(op: Op, s: &Sample, times: usize, out: &mut Output) -> usize {
     let (x, n, y) = (s.bytes.as_ptr(), s.bytes.len(), out.as_mut_ptr());
-    let mut code = unsafe { peer_read(x, n) };
+    let mut code = if op.writes() { unsafe { peer_read(x, n) } } else { 0 };
     let mut count = 0;
     for _ in 0..times {
         unsafe {
@@ -141,8 +185,23 @@ pub fn call(who: Who, op: Op, s: &Sample, times: usize, out: &mut Output) -> usi
     }
 }
 
+/// Whether the library reads the sample; quinn has read it when it was made.
+pub fn accepts(who: Who, s: &Sample) -> bool {
+    let (x, n, mut image) = (s.bytes.as_ptr(), s.bytes.len(), s.record);
+    match who {
+        Who::Quinn => true,
+        Who::Rattle => unsafe { timing_refusal(x, n) == 0 },
+        Who::Interface => unsafe { yuthpram_read(0, x, n, image.as_mut_ptr(), image::RECORD) == 0 },
+        Who::Ngtcp2 => unsafe { peer_read(x, n) == 0 },
+    }
+}
+
+pub fn ngtcp2_version() -> &'static str {
+    // Safety: the header's string, which ends in 0.
+    unsafe { CStr::from_ptr(peer_version()) }.to_str().expect("a version")
+}
+
 /// ngtcp2 has neither orders nor tidying; of 64 KiB of unknown parameters there is nothing to write.
 pub fn exists(who: Who, op: Op, s: &Sample) -> bool {
-    let writes = matches!(op, Op::Write | Op::Ordered);
-    !(who == Who::Ngtcp2 && matches!(op, Op::Ordered | Op::Tidy) || writes && s.bytes.len() > ROOM)
+    !(who == Who::Ngtcp2 && matches!(op, Op::Ordered | Op::Tidy) || op.writes() && s.bytes.len() > ROOM)
 }

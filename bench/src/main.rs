@@ -3,6 +3,7 @@
 #![allow(unexpected_cfgs)]
 
 mod calls;
+mod chart;
 #[path = "../../oracle/src/image.rs"]
 #[allow(dead_code)]
 mod image;
@@ -12,11 +13,14 @@ mod samples;
 
 include!("../../oracle/src/quinn.rs");
 
-use calls::{ALL, OPS, call, exists};
+use calls::{ALL, OPS, accepts, call, exists};
 
-/// Before anything is timed: the libraries store the same bytes.
+/// Before anything is timed: every library accepts each sample, and quinn and Yuthpram store the same bytes.
 fn agree(samples: &[samples::Sample]) {
     for s in samples {
+        for who in ALL {
+            assert!(accepts(who, s), "{} refuses {}", who.name(), s.name);
+        }
         for op in OPS.into_iter().filter(|op| *op != calls::Op::Read) {
             let stored = ALL[..3].iter().filter(|who| exists(**who, op, s)).map(|who| {
                 let mut out = [0; calls::ROOM];
@@ -34,11 +38,11 @@ fn main() {
     match words.iter().map(String::as_str).collect::<Vec<_>>()[..] {
         ["time"] => {
             agree(&samples);
-            page::print(&samples, &measure::times(&samples), &[]);
+            print!("{}", page::table(&samples, &measure::times(&samples)));
         }
         ["page", file, svg] => {
             agree(&samples);
-            page::write(file, svg, &samples);
+            page::write(file, svg, &samples).expect("the page is written");
         }
         ["count", who, op, sample, times] => {
             let at = |word: &str| word.parse::<usize>().expect("a number");

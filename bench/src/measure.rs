@@ -18,6 +18,11 @@ pub struct Measured {
     pub value: f64,
 }
 
+/// What was measured of a library's operation on a sample, if it has it.
+pub fn at(all: &[Measured], sample: usize, op: Op, who: Who) -> Option<f64> {
+    all.iter().find(|m| (m.sample, m.op, m.who) == (sample, op, who)).map(|m| m.value)
+}
+
 fn ns(who: Who, op: Op, s: &Sample, times: usize, out: &mut Output) -> f64 {
     let start = Instant::now();
     call(who, op, s, times, out);
