@@ -51,10 +51,6 @@ at-most x = go (ltb x bound) refl
     go true e = le-leb x 4611686018427387903 (omega (arith, ltb-true x bound e))
     go false e = lt-leb x 4611686018427387903 (omega (arith, ltb-false x bound e))
 
--- a number that is none of those before it
-pub next : (x k : ℕ) → k ≤ x → (x ≡ k → ⊥) → suc k ≤ x
-next x k h n = omega arith
-
 -- an identifier above 0x10 and none of the three others
 pub unknown : (x : ℕ) → 0x10 < x → (x ≡ 0x20 → ⊥) → (x ≡ 0x2ab2 → ⊥) → (x ≡ 0xff04de1b → ⊥) → 21 ≡ placeOf x
 unfolding placeOf ids

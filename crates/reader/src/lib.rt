@@ -548,39 +548,49 @@ fn judge(
     }
 }
 
-// Sets the three to what they are before anything is received.
-fn reset(numbers: &mut [u64; 21], from: &mut [usize; 21], to: &mut [usize; 21])
-    ensures { λ r. ⌜ (now (numbers .exit) ≡ initialNumbers) × (now (from .exit) ≡ replicate 21 0) × (now (to .exit) ≡ replicate 21 0) ⌝ }
+// The numbers before anything is received: the defaults, and 0 for the others.
+const INITIAL_NUMBERS: [u64; 21] = [
+    0,
+    65527,
+    0,
+    0,
+    0,
+    0,
+    0,
+    0,
+    3,
+    25,
+    2,
+    0,
+    0,
+    0,
+    0,
+    0,
+    0,
+    0,
+    0,
+    0,
+    0,
+];
+
+// Goes through an extension for a side: the first fault from the front, then the value rules. Before it nothing is received.
+fn fill(
+    side: Side,
+    src: &[u8],
+    numbers: &mut [u64; 21],
+    from: &mut [usize; 21],
+    to: &mut [usize; 21],
+) -> Scanned
+    requires { ⌜ (now numbers ≡ initialNumbers) × (now from ≡ replicate 21 0) × (now to ≡ replicate 21 0) ⌝ }
+    ensures { λ r. ⌜ (scanOutcome (now (src .entry)) r (now (from .exit)) (now (to .exit)) ≡ admitted side (now (src .entry))) × ScanReceived (now (src .entry)) r (now (numbers .exit)) (now (from .exit)) (now (to .exit)) ⌝ }
 {
-    *numbers = [
-        0,
-        65527,
-        0,
-        0,
-        0,
-        0,
-        0,
-        0,
-        3,
-        25,
-        2,
-        0,
-        0,
-        0,
-        0,
-        0,
-        0,
-        0,
-        0,
-        0,
-        0,
-    ];
-    *from = [0; 21];
-    *to = [0; 21];
+    match scan(src, numbers, from, to) {
+        Scanned::Stopped(fault) => Scanned::Stopped(fault),
+        Scanned::Marks(met) => judge(side, src, met, numbers, from, to),
+    }
 }
 
-// Goes through an extension for a side: the first fault from the front, then the value rules. `numbers` gets each number by place, `from`
-// and `to` where each value stands.
+// The same whatever the three held: `numbers` gets each number by place, `from` and `to` where each value stands.
 pub fn index(
     side: Side,
     src: &[u8],
@@ -590,21 +600,20 @@ pub fn index(
 ) -> Scanned
     ensures { λ r. ⌜ (scanOutcome (now (src .entry)) r (now (from .exit)) (now (to .exit)) ≡ admitted side (now (src .entry))) × ScanReceived (now (src .entry)) r (now (numbers .exit)) (now (from .exit)) (now (to .exit)) ⌝ }
 {
-    reset(numbers, from, to);
-    match scan(src, numbers, from, to) {
-        Scanned::Stopped(fault) => Scanned::Stopped(fault),
-        Scanned::Marks(met) => judge(side, src, met, numbers, from, to),
-    }
+    *numbers = INITIAL_NUMBERS;
+    *from = [0; 21];
+    *to = [0; 21];
+    fill(side, src, numbers, from, to)
 }
 
 // Reads an extension for a side.
 pub fn read(side: Side, src: &[u8]) -> Reading
     ensures { λ r. ⌜ (readOutcome r, r .parameters) ≡ settled (read side (now (src .entry))) ⌝ }
 {
-    let mut numbers = [0u64; 21];
+    let mut numbers = INITIAL_NUMBERS;
     let mut from = [0usize; 21];
     let mut to = [0usize; 21];
-    match index(side, src, &mut numbers, &mut from, &mut to) {
+    match fill(side, src, &mut numbers, &mut from, &mut to) {
         Scanned::Stopped(fault) => refuse(fault),
         Scanned::Marks(met) => {
             let parameters = record_of(src, met, &numbers, &from, &to);

@@ -2,13 +2,16 @@
 use Rattle.reader.proofs.Built.{read-stopped, read-admitted, read-record}
 use Rattle.reader.specs.Answer.{scanOutcome, ScanReceived}
 use Rattle.reader.specs.declared.Scanned.{Scanned}
-use mathlib.Core.Path.{_≡_, ap, sym, _∙_, subst}
+use mathlib.Core.Path.{_≡_, refl, ap, sym, _∙_, subst}
+use Rattle.parameters.specs.Catalogue.{defaults}
+use Rattle.reader.specs.Index.{initialNumbers}
 use borrow.Author.Needs.{needs}
 use Rattle.reader.proofs.read.Statement.{statement}
 use Rattle.reader.proofs.read.Tie as tie
 
-index-requires : tie.Need-index-requires
-index-requires c κs = search needs
+fill-requires : tie.Need-fill-requires
+unfolding initialNumbers defaults
+fill-requires c κs = (refl, refl, refl)
 
 enum-known-fault : tie.Need-enum-known-fault
 enum-known-fault c = search needs
@@ -21,19 +24,19 @@ enum-known-met c = search needs
 
 record-of-requires : tie.Need-record-of-requires
 record-of-requires c κs =
-    let x = c .before .before .before .before .before .before .index in
+    let x = c .before .before .before .before .before .before .fill in
     let s = c .before .before .before .before .before .before .before .before .before .before .before .args .src .now in
     subst (λ (r : Scanned). ScanReceived s r (x .last .1 .1 .0) (x .last .1 .1 .1 .0) (x .last .1 .1 .1 .1 .0)) (c .before .before .before .before .met .given .1) (x .ensures .1)
 
 returns : tie.Need-returns
 returns c =
-    let x = c .before .before .before .before .index in
+    let x = c .before .before .before .before .fill in
     let a = c .before .before .before .before .before .before .before .before .before .args in
     read-stopped (a .side) (a .src .now) _ _ (c .refuse .ensures) (sym (ap (λ (r : Scanned). scanOutcome (a .src .now) r (x .last .1 .1 .1 .0) (x .last .1 .1 .1 .1 .0)) (c .before .before .fault .given .1)) ∙ x .ensures .0)
 
 returns-2 : tie.Need-returns-2
 returns-2 c =
-    let x = c .before .before .before .before .before .before .before .index in
+    let x = c .before .before .before .before .before .before .before .fill in
     let a = c .before .before .before .before .before .before .before .before .before .before .before .before .args in
     let e = sym (ap (λ (r : Scanned). scanOutcome (a .src .now) r (x .last .1 .1 .1 .0) (x .last .1 .1 .1 .1 .0)) (c .before .before .before .before .before .met .given .1)) ∙ x .ensures .0 in
     read-record _ _ _ (c .record-of .ensures) (read-admitted (a .side) (a .src .now) _ e)
@@ -42,7 +45,7 @@ pub read-spec : {M : Type 1} → statement M
 read-spec =
     tie.close
     (tie.spec
-    index-requires
+    fill-requires
     enum-known-fault
     refuse-requires
     enum-known-met
