@@ -10,6 +10,11 @@ abbrev pub code : {A : Type 0} → Outcome A → ℕ
 code (accepted a) = 0
 code (refused e) = e
 
+-- what the last of some calls gives, 0 if there is none
+unfoldable pub lastOf : ℕ → ℕ → ℕ
+lastOf zero x = 0
+lastOf (suc n) x = x
+
 -- 0 for a refusal
 abbrev pub countOf : Outcome ℕ → ℕ
 countOf (accepted n) = n

@@ -7,7 +7,7 @@ ghost use Rattle.writer.specs.Writing.{write};
 ghost use Rattle.tidy.specs.Tidying.{tidy};
 ghost use Rattle.image.specs.Image.{recordFrom};
 ghost use Rattle.reader.specs.Answer.{recordIn};
-ghost use Rattle.timing.specs.Timing.{code, counted, again, repeat, writtenFrom};
+ghost use Rattle.timing.specs.Timing.{code, lastOf, counted, again, repeat, writtenFrom};
 use parameters::Side;
 use parameters::TransportParameters;
 use tidy::Tidied;
@@ -16,12 +16,11 @@ use writer::Written;
 // How many numbers a record has.
 const NUMBERS: usize = 11;
 
-// Reading has more than one caller here, so that the compiler keeps it a function of its own that makes the whole record. Inlined into
-// the one that asks for a number, it would leave most of the record out.
+// Reading, and writing, have more than one caller here, so that the compiler keeps each a function of its own. Inlined into the one that
+// asks for a number, reading would leave most of the record out; inlined into a loop, writing could test the record once for all calls.
 
 // The number at a place of the record read, 0 from place 11 on; of a refused extension, of the default record.
-#[no_mangle]
-pub extern "C" fn timing_read(src: &[u8], place: usize) -> u64
+fn number_read(src: &[u8], place: usize) -> u64
     ensures { λ r. ⌜ r ≡ getD (recordIn (read Side.Client (now (src .entry))) .numbers) place 0 ⌝ }
 {
     let reading = reader::read(Side::Client, src);
@@ -31,6 +30,20 @@ pub extern "C" fn timing_read(src: &[u8], place: usize) -> u64
     let r = reading.parameters;
     let numbers = r.numbers;
     numbers[place]
+}
+
+// Reads so many times, and gives the number of the last.
+#[no_mangle]
+pub extern "C" fn timing_read(src: &[u8], place: usize, times: usize) -> u64
+    ensures { λ r. ⌜ r ≡ lastOf times (getD (recordIn (read Side.Client (now (src .entry))) .numbers) place 0) ⌝ }
+{
+    let mut number: u64 = 0;
+    let mut i: usize = 0;
+    while i < times {
+        number = number_read(src, place);
+        i += 1;
+    }
+    number
 }
 
 // 0, or the number of the refusal.
@@ -78,6 +91,22 @@ pub extern "C" fn timing_write(record: &[u8], times: usize, out: &mut [u8]) -> u
         image::Answer::Accepted => {
             let r = imaged.parameters;
             write_times(r, times, out)
+        }
+        image::Answer::Refused(_) => 0,
+    }
+}
+
+// The same once.
+#[no_mangle]
+pub extern "C" fn timing_written(record: &[u8], out: &mut [u8]) -> usize
+    ensures { λ r. ⌜ (r, now (out .exit)) ≡ writtenFrom (recordFrom (now («record» .entry))) 1 (now (out .entry)) ⌝ }
+{
+    let imaged = image::record_from(record);
+    let answer = imaged.answer;
+    match answer {
+        image::Answer::Accepted => {
+            let r = imaged.parameters;
+            write_once(r, out)
         }
         image::Answer::Refused(_) => 0,
     }

@@ -519,20 +519,30 @@ fn write_unordered(r: TransportParameters, out: &mut [u8]) -> Written
     Written::Count(n)
 }
 
-// Writes the record to the front of `out`, in its order.
-pub fn write(r: TransportParameters, out: &mut [u8]) -> Written
+fn write_in_order(r: TransportParameters, out: &mut [u8]) -> Written
+    requires { ⌜ r .«write_order» .present ≡ true ⌝ }
     ensures { λ w. ⌜ (writeOutcome w, now (out .exit)) ≡ write r (now (out .entry)) ⌝ }
 {
     if !r.is_well_formed() {
         return Written::Refused(Refusal::IllFormed);
     }
-    let order = r.write_order;
-    if !order.present {
-        return write_unordered(r, out);
-    }
-    let places = order.places;
+    let places = r.write_order.places;
     if !is_permutation(&places) {
         return Written::Refused(Refusal::InvalidOrder);
     }
     write_ordered(r, &places, out)
+}
+
+// Writes the record to the front of `out`, in its order. Both ways test the record, so that the test stays a function of its own: inlined, it
+// has the whole record copied byte by byte.
+pub fn write(r: TransportParameters, out: &mut [u8]) -> Written
+    ensures { λ w. ⌜ (writeOutcome w, now (out .exit)) ≡ write r (now (out .entry)) ⌝ }
+{
+    if r.write_order.present {
+        return write_in_order(r, out);
+    }
+    if !r.is_well_formed() {
+        return Written::Refused(Refusal::IllFormed);
+    }
+    write_unordered(r, out)
 }
