@@ -62,7 +62,7 @@ pub const OPS: [Op; 4] = [Op::Read, Op::Write, Op::Ordered, Op::Tidy];
 pub const ALL: [Who; 4] = [Who::Quinn, Who::Rattle, Who::Interface, Who::Ngtcp2];
 
 unsafe extern "C" {
-    fn timing_read(src: *const u8, src_len: usize, place: usize) -> u64;
+    fn timing_read(src: *const u8, src_len: usize, place: usize, times: usize) -> u64;
     fn timing_refusal(src: *const u8, src_len: usize) -> u8;
     fn timing_write(record: *const u8, record_len: usize, times: usize, out: *mut u8, out_len: usize) -> usize;
     fn timing_tidy(src: *const u8, src_len: usize, out: *mut u8, out_len: usize) -> usize;
@@ -126,16 +126,16 @@ fn quinn(op: Op, s: &Sample, times: usize, out: &mut Output) -> usize {
 fn rattle(op: Op, s: &Sample, times: usize, out: &mut Output) -> usize {
     let (x, n, y) = (s.bytes.as_ptr(), s.bytes.len(), out.as_mut_ptr());
     let mut count = 0;
-    if op.writes() {
-        return unsafe { timing_write(record(op, s).as_ptr(), image::RECORD, times, y, ROOM) };
-    }
-    for _ in 0..times {
-        unsafe {
-            match op {
-                Op::Read => {
-                    black_box(timing_read(black_box(x), n, 1));
+    unsafe {
+        match op {
+            Op::Read => {
+                black_box(timing_read(x, n, 1, times));
+            }
+            Op::Write | Op::Ordered => count = timing_write(record(op, s).as_ptr(), image::RECORD, times, y, ROOM),
+            Op::Tidy => {
+                for _ in 0..times {
+                    count = timing_tidy(black_box(x), n, black_box(y), ROOM);
                 }
-                _ => count = timing_tidy(black_box(x), n, black_box(y), ROOM),
             }
         }
     }

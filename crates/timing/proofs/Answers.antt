@@ -19,7 +19,7 @@ use Rattle.image.specs.declared.ImagedRecord.{ImagedRecord}
 use Rattle.image.specs.declared.Answer.the-variants.{Accepted, Refused}
 use Rattle.image.specs.Image.{recordFrom}
 use Rattle.image.specs.Answer.{withValue, recordOutcome, settledRecord}
-use Rattle.timing.specs.Timing.{code, counted, again, repeat, writtenFrom}
+use Rattle.timing.specs.Timing.{code, lastOf, counted, again, repeat, writtenFrom}
 
 -- READING
 module _ (x : Reading) (side : Side) (s : List ℕ) (e : (readOutcome x, x .parameters) ≡ settled (read side s)) where
@@ -34,6 +34,11 @@ module _ (x : Reading) (side : Side) (s : List ℕ) (e : (readOutcome x, x .para
 
   pub code-out : (r : Refusal) (n : ℕ) → x .answer ≡ RefusedR r → n ≡ numberOf r → n ≡ code (read side s)
   code-out r n h f = f ∙ ap code (sym (ap (withRecord (x .parameters)) h) ∙ ap (λ p. p .0) e)
+
+-- one call more
+pub last-more : (i n x : ℕ) → n ≡ x → n ≡ lastOf (i + 1) x
+unfolding lastOf
+last-more i n x e = rw add-one e
 
 -- COUNTS: an outcome o beside a buffer is what the definition w says
 module _ (o : Outcome ℕ) (out : List ℕ) (w : Outcome ℕ × List ℕ) (e : (o, out) ≡ w) where
