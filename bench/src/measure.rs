@@ -4,11 +4,12 @@ use crate::{
     calls::{ALL, OPS, Op, Output, ROOM, Who, call, exists},
     samples::Sample,
 };
-use std::{ffi::c_void, process::Command, time::Instant};
+use std::{ffi::c_void, hint::black_box, process::Command, time::Instant};
 
 /// How long one batch of calls takes, about, and how many batches there are.
 const BATCH_NS: f64 = 40_000.0;
 const ROUNDS: usize = 601;
+const MOST_ROUNDS: usize = 60_000;
 
 pub struct Measured {
     pub sample: usize,
@@ -43,22 +44,64 @@ fn median(values: &mut [f64]) -> f64 {
     values[values.len() / 2]
 }
 
-/// The libraries take turns, and each round starts with another; of each, the median of all rounds.
-pub fn times(samples: &[Sample]) -> Vec<Measured> {
-    let mut all = Vec::new();
+/// How long a fixed piece of arithmetic takes that keeps the whole core busy.
+fn pace() -> f64 {
+    let start = Instant::now();
+    let mut lanes = black_box([1_u64, 2, 3, 4, 5, 6]);
+    for i in 0..2_000 {
+        lanes = lanes.map(|x| (x ^ i).wrapping_add(x << 7));
+    }
+    black_box(lanes);
+    start.elapsed().as_nanos() as f64
+}
+
+/// Tells the rounds in which the core was shared from the others: before and after them the arithmetic takes longer than it can.
+struct Quiet(f64);
+
+impl Quiet {
+    fn new() -> Quiet {
+        Quiet((0..20_000).map(|_| pace()).fold(f64::MAX, f64::min))
+    }
+
+    fn now(&self) -> bool {
+        pace() < self.0 * 1.1
+    }
+}
+
+/// One operation on one sample: the libraries take turns, and each round starts with another; of each, the median of all quiet rounds.
+fn medians(op: Op, s: &Sample, libraries: &[Who], quiet: &Quiet) -> Vec<f64> {
     let mut out = [0; ROOM];
+    let batches: Vec<usize> = libraries.iter().map(|who| batch(*who, op, s, &mut out)).collect();
+    let mut seen = vec![Vec::new(); libraries.len()];
+    for round in 0..MOST_ROUNDS {
+        let before = quiet.now();
+        let mut values = vec![0.0; libraries.len()];
+        for turn in 0..libraries.len() {
+            let i = (round + turn) % libraries.len();
+            values[i] = ns(libraries[i], op, s, batches[i], &mut out) / batches[i] as f64;
+        }
+        if before && quiet.now() {
+            seen.iter_mut().zip(values).for_each(|(seen, value)| seen.push(value));
+        }
+        if seen[0].len() == ROUNDS {
+            break;
+        }
+    }
+    assert!(seen[0].len() > 20, "the machine is too busy to measure on");
+    seen.iter_mut().map(|seen| median(seen)).collect()
+}
+
+pub fn times(samples: &[Sample]) -> Vec<Measured> {
+    let quiet = Quiet::new();
+    let mut all = Vec::new();
     for (sample, s) in samples.iter().enumerate() {
         for op in OPS {
             let libraries: Vec<Who> = ALL.into_iter().filter(|who| exists(*who, op, s)).collect();
-            let batches: Vec<usize> = libraries.iter().map(|who| batch(*who, op, s, &mut out)).collect();
-            let mut seen = vec![Vec::new(); libraries.len()];
-            for round in 0..ROUNDS {
-                for turn in 0..libraries.len() {
-                    let i = (round + turn) % libraries.len();
-                    seen[i].push(ns(libraries[i], op, s, batches[i], &mut out) / batches[i] as f64);
-                }
+            if libraries.is_empty() {
+                continue;
             }
-            all.extend(libraries.iter().zip(&mut seen).map(|(who, seen)| Measured { sample, op, who: *who, value: median(seen) }));
+            let found = medians(op, s, &libraries, &quiet);
+            all.extend(libraries.iter().zip(found).map(|(who, value)| Measured { sample, op, who: *who, value }));
         }
     }
     all
