@@ -62,8 +62,7 @@ pub const OPS: [Op; 4] = [Op::Read, Op::Write, Op::Ordered, Op::Tidy];
 pub const ALL: [Who; 4] = [Who::Quinn, Who::Rattle, Who::Interface, Who::Ngtcp2];
 
 unsafe extern "C" {
-    fn timing_read(src: *const u8, src_len: usize, place: usize, times: usize) -> u64;
-    fn timing_refusal(src: *const u8, src_len: usize) -> u8;
+    fn timing_read(src: *const u8, src_len: usize, times: usize) -> u8;
     fn timing_write(record: *const u8, record_len: usize, times: usize, out: *mut u8, out_len: usize) -> usize;
     fn timing_tidy(src: *const u8, src_len: usize, out: *mut u8, out_len: usize) -> usize;
     fn yuthpram_read(side: u8, src: *const u8, src_len: usize, record: *mut u8, record_len: usize) -> u8;
@@ -129,7 +128,7 @@ fn rattle(op: Op, s: &Sample, times: usize, out: &mut Output) -> usize {
     unsafe {
         match op {
             Op::Read => {
-                black_box(timing_read(x, n, 1, times));
+                black_box(timing_read(x, n, times));
             }
             Op::Write | Op::Ordered => count = timing_write(record(op, s).as_ptr(), image::RECORD, times, y, ROOM),
             Op::Tidy => {
@@ -190,7 +189,7 @@ pub fn accepts(who: Who, s: &Sample) -> bool {
     let (x, n, mut image) = (s.bytes.as_ptr(), s.bytes.len(), s.record);
     match who {
         Who::Quinn => true,
-        Who::Rattle => unsafe { timing_refusal(x, n) == 0 },
+        Who::Rattle => unsafe { timing_read(x, n, 1) == 0 },
         Who::Interface => unsafe { yuthpram_read(0, x, n, image.as_mut_ptr(), image::RECORD) == 0 },
         Who::Ngtcp2 => unsafe { peer_read(x, n) == 0 },
     }

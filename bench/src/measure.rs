@@ -60,7 +60,7 @@ struct Quiet(f64);
 
 impl Quiet {
     fn new() -> Quiet {
-        Quiet((0..20_000).map(|_| pace()).fold(f64::MAX, f64::min))
+        Quiet((0..400_000).map(|_| pace()).fold(f64::MAX, f64::min))
     }
 
     fn now(&self) -> bool {

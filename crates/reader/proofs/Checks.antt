@@ -1,15 +1,18 @@
 -- What the tests of the code mean for the definitions: the parameter at a position, and a value of each kind. Assumes nothing.
-use Prim.Native.Nat.{ℕ, _+_, _-_, _≤_, _<_}
+use Prim.Native.Nat.{ℕ, _+_, _-_, _/_, _%_, _≤_, _<_}
 use mathlib.Core.Path.{_≡_, refl, ap, sym, _∙_}
 use mathlib.Core.List.{List, [], _∷_}
 use mathlib.Core.Bool.{Bool, true, false, _&&_, _||_, not}
 use native.Mathlib.Omega.{arith}
+use native.Mathlib.Nat.{add-zero}
 use lib.ListN.{length, getD, take, drop, length-drop}
-use lib.Seq.{take-all, drop-drop}
+use lib.Seq.{take-all, drop-drop, getD-drop}
+use lib.Bits.{bitOr, or-add-and, and-le-l, and-le-r}
 use lib.Dec.{eqb, leb, ltb}
 use borrow.Author.Tests.{le-leb, lt-leb, eq-eqb, ne-eqb, eqb-true, eqb-false}
 use Rattle.refusal.specs.Outcome.{Result, accepted, refused, Outcome, pick, all}
 use Rattle.varint.specs.Number.{readNumber}
+use Rattle.varint.proofs.Bytes.{read-whole}
 use Rattle.varint.proofs.Laws.{read-within}
 use Rattle.connection_id.specs.ConnectionId.{zeros}
 use Rattle.parameters.specs.Catalogue.{Kind, number, flag, cid, token, address, reserved, otherKinds, kinds, kindAt, fits, fills, illegal, idLength}
@@ -68,6 +71,32 @@ module _ (s : List ℕ) (at id n : ℕ) (first : readNumber (lent s at) ≡ acce
 
     pub beyond : length s - (at + n + m) < len → refused Cut ≡ readParameter (drop at s)
     beyond h = rw (opened, lt-leb _ _ h)
+
+-- a number of one byte
+one-byte : (s : List ℕ) (at : ℕ) → at < length s → getD s at 0 < 64 → readNumber (lent s at) ≡ accepted (getD s at 0, 1)
+one-byte s at h k =
+    let f : getD (drop at s) 0 0 ≡ getD s at 0 = getD-drop at s 0 0 ∙ rw (add-zero at) in
+    let l : 0 < length (drop at s) = rw length-drop (omega arith) in
+    let t : 0 ≡ getD (drop at s) 0 0 / 64 = omega arith in
+    let v : getD (drop at s) 0 0 % 64 ≡ getD s at 0 = omega arith in
+    rw (lent-is s at) (read-whole (drop at s) 0 l t l 0 refl ∙ ap (λ (x : ℕ). accepted (x, 1)) v)
+
+-- an identifier and a length of one byte each
+module _ (s : List ℕ) (at id len : ℕ) (room : 2 ≤ length s - at) (hi : id ≡ getD s at 0) (hl : len ≡ getD s (at + 1) 0) (h : bitOr id len < 64) where
+  first : readNumber (lent s at) ≡ accepted (id, 1)
+  first = rw hi (one-byte s at (omega arith) (omega (arith, or-add-and id len, and-le-r id len)))
+
+  second : readNumber (lent s (at + 1)) ≡ accepted (len, 1)
+  second = rw hl (one-byte s (at + 1) (omega arith) (omega (arith, or-add-and id len, and-le-l id len)))
+
+  two : at + 1 + 1 ≡ at + 2
+  two = omega arith
+
+  pub short-whole : len ≤ length s - at - 2 → accepted (id, take (at + 2 + len - (at + 2)) (drop (at + 2) s), drop (at + 2 + len) s) ≡ readParameter (drop at s)
+  short-whole k = rw two at (whole s at id 1 first len 1 second (omega arith))
+
+  pub short-beyond : length s - at - 2 < len → refused Cut ≡ readParameter (drop at s)
+  short-beyond k = beyond s at id 1 first len 1 second (omega arith)
 
 -- A VALUE OF A KIND. Numbers
 module _ (v : List ℕ) where

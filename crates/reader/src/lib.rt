@@ -88,7 +88,28 @@ impl Fault {
     }
 }
 
+// An identifier and a length of one byte each stand apart: most are.
 fn parameter_at(src: &[u8], at: usize) -> Parameter
+    requires { ⌜ at ≤ length (now src) ⌝ }
+    ensures { λ r. ⌜ (parameterOutcome (now (src .entry)) r ≡ readParameter (drop at (now (src .entry)))) × Within r (length (now (src .entry))) ⌝ }
+{
+    let left = src.len() - at;
+    if 2 <= left {
+        let id = src[at];
+        let len = src[at + 1];
+        if (id | len) < 64 {
+            let start = at + 2;
+            let n = len as usize;
+            if n <= left - 2 {
+                return Parameter::Whole(id as u64, start, start + n);
+            }
+            return Parameter::Broken;
+        }
+    }
+    any_parameter_at(src, at)
+}
+
+fn any_parameter_at(src: &[u8], at: usize) -> Parameter
     requires { ⌜ at ≤ length (now src) ⌝ }
     ensures { λ r. ⌜ (parameterOutcome (now (src .entry)) r ≡ readParameter (drop at (now (src .entry)))) × Within r (length (now (src .entry))) ⌝ }
 {

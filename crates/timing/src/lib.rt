@@ -16,11 +16,38 @@ use writer::Written;
 // How many numbers a record has.
 const NUMBERS: usize = 11;
 
-// Reading, and writing, have more than one caller here, so that the compiler keeps each a function of its own. Inlined into the one that
-// asks for a number, reading would leave most of the record out; inlined into a loop, writing could test the record once for all calls.
+// Reading, and writing, have more than one caller here, so that the compiler keeps each a function of its own. Inlined, reading would leave
+// out what its caller does not look at, and writing could test the record once for all calls of a loop.
+
+// 0, or the number of the refusal.
+fn read_once(src: &[u8]) -> u8
+    ensures { λ r. ⌜ r ≡ code (read Side.Client (now (src .entry))) ⌝ }
+{
+    let reading = reader::read(Side::Client, src);
+    let answer = reading.answer;
+    match answer {
+        reader::Answer::Accepted => 0,
+        reader::Answer::Refused(refusal) => refusal.number(),
+    }
+}
+
+// Reads so many times, and gives what the last gave.
+#[no_mangle]
+pub extern "C" fn timing_read(src: &[u8], times: usize) -> u8
+    ensures { λ r. ⌜ r ≡ lastOf times (code (read Side.Client (now (src .entry)))) ⌝ }
+{
+    let mut last: u8 = 0;
+    let mut i: usize = 0;
+    while i < times {
+        last = read_once(src);
+        i += 1;
+    }
+    last
+}
 
 // The number at a place of the record read, 0 from place 11 on; of a refused extension, of the default record.
-fn number_read(src: &[u8], place: usize) -> u64
+#[no_mangle]
+pub extern "C" fn timing_number(src: &[u8], place: usize) -> u64
     ensures { λ r. ⌜ r ≡ getD (recordIn (read Side.Client (now (src .entry))) .numbers) place 0 ⌝ }
 {
     let reading = reader::read(Side::Client, src);
@@ -30,33 +57,6 @@ fn number_read(src: &[u8], place: usize) -> u64
     let r = reading.parameters;
     let numbers = r.numbers;
     numbers[place]
-}
-
-// Reads so many times, and gives the number of the last.
-#[no_mangle]
-pub extern "C" fn timing_read(src: &[u8], place: usize, times: usize) -> u64
-    ensures { λ r. ⌜ r ≡ lastOf times (getD (recordIn (read Side.Client (now (src .entry))) .numbers) place 0) ⌝ }
-{
-    let mut number: u64 = 0;
-    let mut i: usize = 0;
-    while i < times {
-        number = number_read(src, place);
-        i += 1;
-    }
-    number
-}
-
-// 0, or the number of the refusal.
-#[no_mangle]
-pub extern "C" fn timing_refusal(src: &[u8]) -> u8
-    ensures { λ r. ⌜ r ≡ code (read Side.Client (now (src .entry))) ⌝ }
-{
-    let reading = reader::read(Side::Client, src);
-    let answer = reading.answer;
-    match answer {
-        reader::Answer::Accepted => 0,
-        reader::Answer::Refused(refusal) => refusal.number(),
-    }
 }
 
 fn write_once(r: TransportParameters, out: &mut [u8]) -> usize

@@ -1,132 +1,65 @@
 -- `reader::parameter_at` meets its contract. Assumes nothing.
-use Rattle.reader.proofs.Checks.{lent, first-cut, first-within, second-cut, second-within, whole, beyond}
-use Rattle.varint.specs.Answer.{readOutcome}
-use Rattle.varint.specs.Number.{readNumber}
-use Rattle.refusal.specs.Outcome.{accepted}
-use lib.ListN.{length}
-use Prim.Native.Nat.{ℕ, _+_, _≤_}
+use Rattle.reader.proofs.Checks.{short-whole, short-beyond}
 use native.Mathlib.Omega.{arith}
-use mathlib.Core.Path.{_≡_, refl, ap, sym, _∙_}
+use Prim.Native.Nat.{_+_}
+use mathlib.Core.Path.{refl}
 use borrow.Author.Needs.{needs}
 use Rattle.reader.proofs.parameter_at.Statement.{statement}
 use Rattle.reader.proofs.parameter_at.Tie as tie
 
-sub-decode : tie.Need-sub-decode
-sub-decode c = search needs
+sub-left : tie.Need-sub-left
+sub-left c = search needs
 
--- the identifier, and the length behind it
-got : (c : tie.After-known-told) → let a = c .before .before .before .before .before .before .args in let q = c .before .id .given .0 in
-    readNumber (lent (a .src .now) (a .at)) ≡ accepted (q .0, q .1 .0)
-got c = sym (c .before .before .before .decode .ensures) ∙ ap readOutcome (c .before .id .given .1)
+shared-slice-read-id : tie.Need-shared-slice-read-id
+shared-slice-read-id c = search needs
 
-first : (c : tie.After-known-told) → let a = c .before .before .before .before .before .before .args in let q = c .before .id .given .0 in
-    (1 ≤ q .1 .0) × (a .at + q .1 .0 ≤ length (a .src .now))
-first c =
-    let b = c .before .before .before .before .before .before in
-    let q = c .before .id .given .0 in
-    first-within (b .args .src .now) (b .args .at) (q .0) (q .1 .0) (got c) (b .pre)
+add-len : tie.Need-add-len
+add-len c = search needs
 
-got2 : (c : tie.After-known-told2) →
-    let d = c .before .before .before .before .before in
-    let a = d .before .before .before .before .before .before .args in
-    let q = d .before .id .given .0 in
-    let p = c .before .len .given .0 in
-    readNumber (lent (a .src .now) (a .at + q .1 .0)) ≡ accepted (p .0, p .1 .0)
-got2 c = sym (c .before .before .before .decode2 .ensures) ∙ ap readOutcome (c .before .len .given .1)
-
-second : (c : tie.After-known-told2) →
-    let d = c .before .before .before .before .before in
-    let a = d .before .before .before .before .before .before .args in
-    let q = d .before .id .given .0 in
-    let p = c .before .len .given .0 in
-    (1 ≤ p .1 .0) × (a .at + q .1 .0 + p .1 .0 ≤ length (a .src .now))
-second c =
-    let d = c .before .before .before .before .before in
-    let a = d .before .before .before .before .before .before .args in
-    let q = d .before .id .given .0 in
-    let p = c .before .len .given .0 in
-    second-within (a .src .now) (a .at) (q .0) (q .1 .0) (got d) (p .0) (p .1 .0) (got2 c) (first d .1)
-
-part-decode-start : tie.Need-part-decode-start
-part-decode-start c = search needs
-
-part-decode-end : tie.Need-part-decode-end
-part-decode-end c = search needs
-
-decode-requires : tie.Need-decode-requires
-decode-requires c κs = search needs
-
-enum-known-id : tie.Need-enum-known-id
-enum-known-id c = search needs
-
-enum-told : tie.Need-enum-told
-enum-told c = search needs
-
-returns : tie.Need-returns
-returns c = (first-cut _ (c .before .before .before .before .before .args .at) _ (sym (c .before .before .decode .ensures) ∙ ap readOutcome (c .enum-told .given .1)), tt)
-
-add-b : tie.Need-add-b
-add-b c = let w = first c in omega arith
-
-sub-decode-2 : tie.Need-sub-decode-2
-sub-decode-2 c = first c .1
-
-part-decode-start-2 : tie.Need-part-decode-start-2
-part-decode-start-2 c = let w = first c in search needs
-
-part-decode-end-2 : tie.Need-part-decode-end-2
-part-decode-end-2 c = search needs
-
-decode-requires-2 : tie.Need-decode-requires-2
-decode-requires-2 c κs = search needs
-
-enum-known-len : tie.Need-enum-known-len
-enum-known-len c = search needs
-
-enum-told-2 : tie.Need-enum-told-2
-enum-told-2 c = search needs
-
-returns-2 : tie.Need-returns-2
-returns-2 c = (second-cut _ (c .before .before .before .before .before .before .before .before .before .before .args .at) _ _ (got (c .before .before .before .before)) _ (sym (c .before .before .decode2 .ensures) ∙ ap readOutcome (c .enum-told2 .given .1)), tt)
+shared-slice-read-len : tie.Need-shared-slice-read-len
+shared-slice-read-len c = search needs
 
 add-start : tie.Need-add-start
-add-start c = let w = second c in omega arith
+add-start c = search needs
 
-sub-left : tie.Need-sub-left
-sub-left c = second c .1
+cast-n : tie.Need-cast-n
+cast-n c = omega (arith, c .before .before .before .before .shared-slice-known .given (c .before .before .before .before .before .args .at + 1))
 
-add-t23 : tie.Need-add-t23
-add-t23 c = let w = second (c .before) in omega arith
+cast-t17 : tie.Need-cast-t17
+cast-t17 c = omega (arith, c .before .before .before .before .before .shared-slice-known .given (c .before .before .before .before .before .before .args .at))
+
+add-t18 : tie.Need-add-t18
+add-t18 c = search needs
+
+returns : tie.Need-returns
+returns c =
+    let a = c .before .before .before .before .before .before .args in
+    (short-whole (a .src .now) (a .at) _ _ (c .before .before .before .before .if1 .taken) refl refl (c .before .if2 .taken) (c .if3 .taken), (omega arith, omega arith))
+
+returns-2 : tie.Need-returns-2
+returns-2 c =
+    let a = c .before .before .before .before .before .before .args in
+    (short-beyond (a .src .now) (a .at) _ _ (c .before .before .before .before .if1 .taken) refl refl (c .before .if2 .taken) (c .if3 .left), tt)
+
+any-parameter-at-requires : tie.Need-any-parameter-at-requires
+any-parameter-at-requires c κs = search needs
 
 returns-3 : tie.Need-returns-3
-returns-3 c =
-    let w = second (c .before) in
-    (whole _ (c .before .before .before .before .before .before .before .before .before .before .before .before .args .at) _ _ (got (c .before .before .before .before .before .before)) _ _ (got2 (c .before)) (c .if1 .taken), (omega arith, omega arith))
-
-returns-4 : tie.Need-returns-4
-returns-4 c = (beyond _ (c .before .before .before .before .before .before .before .before .before .before .before .before .args .at) _ _ (got (c .before .before .before .before .before .before)) _ _ (got2 (c .before)) (c .if1 .left), tt)
+returns-3 c = search needs
 
 pub parameter-at-spec : {M : Type 1} → statement M
 parameter-at-spec =
     tie.close
     (tie.spec
-    sub-decode
-    part-decode-start
-    part-decode-end
-    decode-requires
-    enum-known-id
-    enum-told
-    returns
-    add-b
-    sub-decode-2
-    part-decode-start-2
-    part-decode-end-2
-    decode-requires-2
-    enum-known-len
-    enum-told-2
-    returns-2
-    add-start
     sub-left
-    add-t23
-    returns-3
-    returns-4)
+    shared-slice-read-id
+    add-len
+    shared-slice-read-len
+    add-start
+    cast-n
+    cast-t17
+    add-t18
+    returns
+    returns-2
+    any-parameter-at-requires
+    returns-3)

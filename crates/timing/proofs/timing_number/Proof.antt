@@ -1,9 +1,9 @@
--- `timing::number_read` meets its contract. Assumes nothing.
+-- `timing::timing_number` meets its contract. Assumes nothing.
 use native.Mathlib.Omega.{arith}
 use Rattle.timing.proofs.Answers.{number-at, number-past}
 use borrow.Author.Needs.{needs}
-use Rattle.timing.proofs.number_read.Statement.{statement}
-use Rattle.timing.proofs.number_read.Tie as tie
+use Rattle.timing.proofs.timing_number.Statement.{statement}
+use Rattle.timing.proofs.timing_number.Tie as tie
 
 read-requires : tie.Need-read-requires
 read-requires c κs = search needs
@@ -20,6 +20,6 @@ array-read-result c = search needs
 returns-2 : tie.Need-returns-2
 returns-2 c = number-at (c .before .before .before .read .result) _ _ (c .before .before .before .read .ensures) _
 
-pub number-read-spec : {M : Type 1} → statement M
-number-read-spec =
+pub timing-number-spec : {M : Type 1} → statement M
+timing-number-spec =
     tie.close (tie.spec read-requires returns mul-result array-read-result returns-2)

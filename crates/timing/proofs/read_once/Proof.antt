@@ -1,8 +1,8 @@
--- `timing::timing_refusal` meets its contract. Assumes nothing.
+-- `timing::read_once` meets its contract. Assumes nothing.
 use Rattle.timing.proofs.Answers.{code-in, code-out}
 use borrow.Author.Needs.{needs}
-use Rattle.timing.proofs.timing_refusal.Statement.{statement}
-use Rattle.timing.proofs.timing_refusal.Tie as tie
+use Rattle.timing.proofs.read_once.Statement.{statement}
+use Rattle.timing.proofs.read_once.Tie as tie
 
 read-requires : tie.Need-read-requires
 read-requires c κs = search needs
@@ -22,7 +22,7 @@ returns c = code-in _ _ _ (c .before .before .read .ensures) (c .enum-told .give
 returns-2 : tie.Need-returns-2
 returns-2 c = code-out _ _ _ (c .before .before .before .before .read .ensures) _ _ (c .before .before .answer .given .1) (c .number .ensures)
 
-pub timing-refusal-spec : {M : Type 1} → statement M
-timing-refusal-spec =
+pub read-once-spec : {M : Type 1} → statement M
+read-once-spec =
     tie.close
     (tie.spec read-requires enum-told enum-known-answer number-requires returns returns-2)
