@@ -1,12 +1,12 @@
 -- What the code answers at each `return`, as the definitions have it. Assumes nothing.
 use Prim.Native.Nat.{ℕ, _≤_, _<_}
-use mathlib.Core.Path.{_≡_, refl, ap, sym, _∙_}
+use mathlib.Core.Path.{_≡_, _∙_}
 use mathlib.Core.List.{List}
 use mathlib.Core.Bool.{Bool, true, false, _&&_}
 use lib.ListN.{length}
 use lib.Seq.{sets}
 use borrow.Author.Tests.{eq-eqb, ne-eqb, le-leb, lt-leb}
-use Rattle.refusal.specs.Outcome.{Outcome, accepted, refused, all, store}
+use Rattle.refusal.specs.Outcome.{accepted, refused, all, store}
 use Rattle.varint.proofs.Bytes.{stored}
 use Rattle.connection_id.proofs.Laws.{and-true}
 use Rattle.parameters.specs.declared.TransportParameters.{TransportParameters}

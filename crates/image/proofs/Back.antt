@@ -1,19 +1,19 @@
 -- What stands in an image is what it was made of. Assumes nothing.
 --     back     a well-formed record, from its image
 --     size     how long that is
-use Prim.Native.Nat.{ℕ, zero, suc, _+_, _*_, _%_, _^_, _≤_, _<_}
+use Prim.Native.Nat.{ℕ, zero, suc, _+_, _*_, _^_, _<_}
 use mathlib.Core.Path.{_≡_, refl, ap, ap₂, sym, _∙_}
 use mathlib.Core.List.{List, [], _∷_, _++_, map, append-assoc, append-nil}
 use mathlib.Core.Bool.{Bool, true, false, _&&_, _||_}
 use native.Mathlib.Nat.{add-zero, mod-eq-of-lt}
 use native.Mathlib.Omega.{arith}
-use lib.ListN.{length, getD, take, drop, length-append}
+use lib.ListN.{length, getD, drop}
 use lib.Seq.{take-at, drop-at, drop-drop, drop-append-add, getD-drop}
 use lib.Dec.{leb, ltb, eqb}
-use borrow.Author.Tests.{eqb-true, ltb-true, eq-eqb, le-leb}
-use Rattle.refusal.specs.Outcome.{accepted, refused, pick, all}
+use borrow.Author.Tests.{eqb-true, ltb-true, eq-eqb}
+use Rattle.refusal.specs.Outcome.{accepted, pick, all}
 use Rattle.refusal.proofs.Laws.{all-at}
-use Rattle.varint.specs.Number.{bound, valueFrom, bytesOf}
+use Rattle.varint.specs.Number.{bound, bytesOf}
 use Rattle.varint.proofs.Bytes.{length-bytesOf, value-bytesOf}
 use Rattle.connection_id.specs.declared.ConnectionId.{ConnectionId}
 use Rattle.connection_id.specs.ConnectionId.{formedCid}

@@ -1,6 +1,6 @@
 -- The image of each kind: its size, and that the stores of the code leave it. Assumes nothing.
-use Prim.Native.Nat.{ℕ, zero, suc, _+_, _*_, _≤_, _<_}
-use mathlib.Core.Path.{_≡_, refl, ap, ap₂, sym, _∙_}
+use Prim.Native.Nat.{ℕ, suc, _+_, _*_, _<_}
+use mathlib.Core.Path.{_≡_, refl, ap, sym, _∙_}
 use mathlib.Core.List.{List, [], _∷_, _++_, append-nil, append-assoc}
 use mathlib.Core.Bool.{Bool}
 use native.Mathlib.Numerals.{add-one}

@@ -2,7 +2,7 @@
 -- byte first, a flag is 0 or 1, and what is absent is all zero. For each kind: its image, and what stands at a place of an image.
 use Prim.Native.Nat.{ℕ, zero, suc, _+_}
 use mathlib.Core.List.{List, [], _∷_, _++_}
-use mathlib.Core.Bool.{Bool, true, false, _&&_, _||_}
+use mathlib.Core.Bool.{Bool, true, false, _||_}
 use lib.ListN.{length, getD, take, drop}
 use lib.Dec.{leb, eqb}
 use Rattle.refusal.specs.Outcome.{Outcome, accepted, refused, pick, all}

@@ -7,7 +7,7 @@ ghost use lib.ListN.{length};
 ghost use lib.Seq.{sets};
 ghost use Rattle.refusal.specs.Outcome.{store};
 ghost use Rattle.varint.specs.Number.{bytesOf};
-ghost use Rattle.image.specs.Image.{part, flagByte, flagAt, numberAt, eightBytes, numbersImage, numbersAt, isPresent, optionalImage, optionalAt, cidImage, cidAt, optionalCidImage, optionalCidAt, tokenImage, tokenAt, familyImage, familyAt, addressImage, addressAt, reservedImage, reservedAt, orderImage, orderAt, joined, frontParts, idParts, restParts, imageOf, recordAt, flagsHold, zeroIfAbsent, isImage, recordFrom, cidFrom};
+ghost use Rattle.image.specs.Image.{part, flagByte, flagAt, numberAt, eightBytes, numbersImage, numbersAt, isPresent, optionalImage, optionalAt, cidImage, cidAt, optionalCidImage, optionalCidAt, tokenImage, tokenAt, familyImage, familyAt, addressImage, addressAt, reservedImage, reservedAt, orderImage, orderAt, joined, frontParts, idParts, restParts, imageOf, recordAt, flagsHold, zeroIfAbsent, recordFrom, cidFrom};
 ghost use Rattle.image.specs.Answer.{recordOutcome, cidOutcome, storeOutcome, settledRecord, settledCid, refusedRecord};
 ghost use Rattle.parameters.specs.Values.{toV4, toV6, ofV4, ofV6};
 ghost use Rattle.parameters.specs.Record.{least};

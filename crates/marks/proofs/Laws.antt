@@ -1,14 +1,13 @@
 -- Laws of marks: a mark changes its own place (marked-same) and no other (marked-other); without any, no place is marked (unmarked).
 -- Assumes nothing.
-use Prim.Native.Nat.{ℕ, zero, suc, _+_, _-_, _*_, _/_, _%_, _^_, _<_, _≤_}
+use Prim.Native.Nat.{ℕ, zero, suc, _+_, _-_, _/_, _%_, _^_, _<_, _≤_}
 use mathlib.Core.Bool.{Bool, true, false}
-use mathlib.Core.Path.{_≡_, refl, ap, ap₂, sym, subst, _∙_}
-use mathlib.Core.Logic.{_⊎_, ⊎-elim, inl, inr}
+use mathlib.Core.Path.{_≡_, refl, ap, sym, _∙_}
 use native.Mathlib.Nat.{div-eq-of-lt, one-mul, mod-lt, zero-div, lt-of-lt-of-le}
 use native.Mathlib.Omega.{arith}
 use lib.Dec.{eqb, ltb, lit<}
 use borrow.Author.Tests.{ltb-true, ltb-false}
-use lib.Bits.{bitOr, or-shr, or-mod, or-zero-r, or-comm, shifted-even}
+use lib.Bits.{bitOr, or-shr, or-mod, or-zero-r, shifted-even}
 use lib.Pow.{pow-lt, pow-add, pow-mono, shl-shr}
 use Rattle.marks.specs.Mark.{marked, mark}
 

@@ -3,7 +3,7 @@
 use Prim.Native.Nat.{ℕ, suc, _+_, _^_}
 use mathlib.Core.List.{List, [], _∷_, _++_}
 use mathlib.Core.Option.{Option, none, some}
-use mathlib.Core.Bool.{Bool, true, false}
+use mathlib.Core.Bool.{Bool, false}
 use lib.ListN.{length, getD, take, replicate}
 use lib.Dec.{ltb, leb, eqb}
 use Rattle.refusal.specs.Outcome.{Outcome, accepted, refused, pick, all}

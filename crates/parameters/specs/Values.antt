@@ -4,12 +4,11 @@ use Prim.Native.Nat.{ℕ, suc, _+_, _-_, _<_}
 use mathlib.Core.List.{List, [], _∷_, _++_}
 use mathlib.Core.Option.{Option, none, some}
 use mathlib.Core.Bool.{Bool, true, false, not}
-use lib.ListN.{length, getD, take, drop, replicate}
+use lib.ListN.{getD, take, drop, replicate}
 use lib.Dec.{ltb, eqb}
 use Rattle.refusal.specs.Outcome.{Outcome, accepted, refused, pick}
 use Rattle.varint.specs.Number.{readNumber, numberBytes, valueFrom, bytesOf}
 use Rattle.connection_id.specs.ConnectionId.{zeros, cidOf, cidBytes}
-use Rattle.connection_id.specs.declared.ConnectionId.{ConnectionId}
 use Rattle.parameters.specs.declared.TransportParameters.{TransportParameters}
 use Rattle.parameters.specs.declared.OptionalNumber.{OptionalNumber}
 use Rattle.parameters.specs.declared.OptionalNumber.the-variants.{Absent, Present}

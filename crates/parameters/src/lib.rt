@@ -9,7 +9,7 @@ ghost use Rattle.varint.specs.Number.{bound};
 ghost use Rattle.connection_id.specs.ConnectionId.{zeros, formedCid};
 ghost use Rattle.parameters.specs.Catalogue.{placeOf, idAt};
 ghost use Rattle.parameters.specs.Values.{ofV4, ofV6};
-ghost use Rattle.parameters.specs.Record.{every, isServer, least, unspecified, formedOptional, formedOptionalCid, formedOptionalToken, formedToken, formedFamily, formedAddress, formedReserved, formedOrder, wellFormed, numberRules, presenceRules, valueRules, familyRules, checkRecord, defaultRecord};
+ghost use Rattle.parameters.specs.Record.{every, isServer, least, unspecified, formedOptional, formedOptionalCid, formedOptionalToken, formedFamily, formedAddress, formedReserved, formedOrder, wellFormed, numberRules, presenceRules, valueRules, familyRules, checkRecord, defaultRecord};
 ghost use Rattle.parameters.specs.Answer.{checkOutcome, cidFrom, optionalCid, optionalToken, reservedFrom, orderFrom};
 use connection_id::ConnectionId;
 use refusal::Refusal;

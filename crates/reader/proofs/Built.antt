@@ -1,33 +1,29 @@
 -- Laws of the record that is built of what the scan kept. Assumes nothing.
 use Prim.Native.Nat.{ℕ, zero, suc, _+_, _-_, _*_, _≤_, _<_}
 use mathlib.Core.Path.{_≡_, refl, ap, sym, _∙_, subst}
-use mathlib.Core.List.{List, [], _∷_, _++_}
+use mathlib.Core.List.{List, [], _∷_}
 use mathlib.Core.Option.{Option, none, some}
 use mathlib.Core.Bool.{Bool, true, false, _&&_, not}
 use native.Mathlib.Omega.{arith}
-use lib.ListN.{length, getD, take, drop, replicate, length-take, length-drop}
-use lib.Seq.{drop-cons, take-all, length-take-le, getD-take, getD-drop, ext-getD, drop-drop}
-use lib.Dec.{eqb, leb, ltb}
+use lib.ListN.{length, getD, take, drop, length-take, length-drop}
+use lib.Seq.{drop-cons, take-all, length-take-le, getD-take, getD-drop, ext-getD}
 use borrow.Author.Tests.{leb-true, eqb-true}
 use Rattle.refusal.specs.Outcome.{Result, accepted, refused, Outcome, pick, andThen, all}
 use Rattle.refusal.specs.Number.{numberOf}
 use Rattle.refusal.proofs.Laws.{all-at}
-use Rattle.varint.specs.Number.{valueFrom}
 use Rattle.connection_id.specs.ConnectionId.{zeros, cidOf, makeCid}
 use Rattle.connection_id.specs.Answer.{readOutcome, settled}
 use Rattle.connection_id.specs.declared.ConnectionId.{ConnectionId}
 use Rattle.connection_id.specs.declared.DecodedCid.{DecodedCid}
 use Rattle.connection_id.proofs.Answers.{make-whole}
 use Rattle.marks.specs.Mark.{marked}
-use Rattle.parameters.specs.declared.OptionalNumber.{OptionalNumber}
 use Rattle.parameters.specs.declared.OptionalNumber.the-variants.{Absent, Present}
 use Rattle.parameters.specs.declared.TransportParameters.{TransportParameters}
-use Rattle.parameters.specs.declared.PreferredAddress.{PreferredAddress}
 use Rattle.parameters.specs.declared.SocketAddrV4.{SocketAddrV4}
 use Rattle.parameters.specs.declared.SocketAddrV6.{SocketAddrV6}
 use Rattle.parameters.specs.declared.Side.{Side}
-use Rattle.parameters.specs.Catalogue.{Kind, number, cid, token, address, kinds, kindAt, defaults, fits, idLength}
-use Rattle.parameters.specs.Values.{Values, Bytes, noValues, isSome, numberIn, optionalIn, cidIn, tokenOf, tokenIn, familyIn, toV4, toV6, addressIn, numbersIn, recordOf}
+use Rattle.parameters.specs.Catalogue.{Kind, number, cid, address, kinds, kindAt, defaults, fits, idLength}
+use Rattle.parameters.specs.Values.{Values, Bytes, noValues, isSome, numberIn, optionalIn, cidIn, tokenIn, familyIn, toV4, toV6, addressIn, numbersIn, recordOf}
 use Rattle.parameters.specs.Record.{isServer, least, numberRules, presenceRules, valueRules}
 use Rattle.parameters.proofs.KindLaws.{Fits, IfSome}
 use Rattle.parameters.proofs.Places.{number-kind, number-in, numbers-length}

@@ -1,25 +1,25 @@
 -- What the tests of the code mean for the definitions: the parameter at a position, and a value of each kind. Assumes nothing.
 use Prim.Native.Nat.{ℕ, _+_, _-_, _/_, _%_, _≤_, _<_}
-use mathlib.Core.Path.{_≡_, refl, ap, sym, _∙_}
+use mathlib.Core.Path.{_≡_, refl, ap, _∙_}
 use mathlib.Core.List.{List, [], _∷_}
-use mathlib.Core.Bool.{Bool, true, false, _&&_, _||_, not}
+use mathlib.Core.Bool.{Bool, true, false, _&&_, not}
 use native.Mathlib.Omega.{arith}
 use native.Mathlib.Nat.{add-zero}
 use lib.ListN.{length, getD, take, drop, length-drop}
 use lib.Seq.{take-all, drop-drop, getD-drop}
 use lib.Bits.{bitOr, or-add-and, and-le-l, and-le-r}
-use lib.Dec.{eqb, leb, ltb}
+use lib.Dec.{eqb, leb}
 use borrow.Author.Tests.{le-leb, lt-leb, eq-eqb, ne-eqb, eqb-true, eqb-false}
-use Rattle.refusal.specs.Outcome.{Result, accepted, refused, Outcome, pick, all}
+use Rattle.refusal.specs.Outcome.{Result, accepted, refused, pick, all}
 use Rattle.varint.specs.Number.{readNumber}
 use Rattle.varint.proofs.Bytes.{read-whole}
 use Rattle.varint.proofs.Laws.{read-within}
 use Rattle.connection_id.specs.ConnectionId.{zeros}
-use Rattle.parameters.specs.Catalogue.{Kind, number, flag, cid, token, address, reserved, otherKinds, kinds, kindAt, fits, fills, illegal, idLength}
+use Rattle.parameters.specs.Catalogue.{Kind, number, cid, token, address, otherKinds, kinds, kindAt, fits, illegal, idLength}
 use Rattle.parameters.specs.Values.{value}
 use Rattle.reader.specs.declared.Fault.{Fault}
 use Rattle.reader.specs.declared.Fault.the-variants.{Cut, SecondCopy, Misfit, Illegal}
-use Rattle.reader.specs.Reading.{mayRepeat, orCut, readParameter}
+use Rattle.reader.specs.Reading.{mayRepeat, readParameter}
 use Rattle.reader.specs.Index.{numberOf, checkKind, checkValue, receiveValue}
 
 -- THE PARAMETER AT A POSITION. A part that is lent to its end

@@ -1,6 +1,6 @@
 -- The code's answers in the papers' terms.
 use Prim.Native.Nat.{ℕ, _-_, _≤_}
-use mathlib.Core.List.{List, []}
+use mathlib.Core.List.{List}
 use mathlib.Core.Bool.{Bool}
 use lib.ListN.{take, drop}
 use Rattle.refusal.specs.Outcome.{Result, accepted, refused, Outcome, pick}

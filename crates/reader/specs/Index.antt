@@ -2,8 +2,8 @@
 -- input, and each number.
 use Prim.Native.Nat.{ℕ, _-_, _≤_}
 use mathlib.Core.Path.{_≡_}
-use mathlib.Core.List.{List, [], _∷_, _++_}
-use mathlib.Core.Option.{Option, none, some}
+use mathlib.Core.List.{List, _++_}
+use mathlib.Core.Option.{none, some}
 use mathlib.Core.Bool.{Bool, true, _&&_, not}
 use lib.ListN.{length, getD, take, drop, replicate}
 use Rattle.refusal.specs.Outcome.{Result, accepted, refused, pick, andThen}

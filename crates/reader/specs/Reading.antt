@@ -2,7 +2,7 @@
 -- another; then the value rules; then the record.
 use Prim.Native.Nat.{ℕ, zero, suc}
 use mathlib.Core.List.{List, [], _∷_}
-use mathlib.Core.Option.{Option, some}
+use mathlib.Core.Option.{some}
 use mathlib.Core.Bool.{Bool, _&&_, _||_, not}
 use lib.ListN.{length, take, drop}
 use lib.Dec.{ltb, leb, eqb}

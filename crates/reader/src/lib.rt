@@ -1,15 +1,13 @@
 // Reading an extension: `TransportParameters::read` of quinn's transport_parameters.rs. A scan keeps each number, where each value stands
 // and a mask of the places met; then come the value rules; then the record is built once.
 ghost use mathlib.Core.Path.{_≡_};
-ghost use mathlib.Core.Bool.{true, not, _&&_};
+ghost use mathlib.Core.Bool.{true, not};
 ghost use mathlib.Core.Option.{none, some};
 ghost use Prim.Native.Nat.{_+_, _-_, _*_, _<_, _≤_};
-ghost use lib.ListN.{length, take, drop, getD, replicate};
-ghost use lib.Dec.{eqb};
+ghost use lib.ListN.{length, take, drop, replicate};
 ghost use Rattle.refusal.specs.Outcome.{pick};
 ghost use Rattle.connection_id.specs.ConnectionId.{zeros};
-ghost use Rattle.marks.specs.Mark.{marked};
-ghost use Rattle.parameters.specs.Catalogue.{number, flag, cid, token, address, fits};
+ghost use Rattle.parameters.specs.Catalogue.{number, cid, token, address, fits};
 ghost use Rattle.parameters.specs.Values.{noValues, cidIn, tokenIn, addressIn, familyIn, toV4, toV6, recordOf};
 ghost use Rattle.parameters.specs.Record.{valueRules};
 ghost use Rattle.reader.specs.Reading.{mayRepeat, readParameter, parse, read};

@@ -2,22 +2,21 @@
 -- of the record. Assumes nothing.
 use Prim.Native.Nat.{ℕ, suc, _<_, _^_}
 use mathlib.Core.Path.{_≡_, refl, ap, sym, _∙_, subst}
-use mathlib.Core.List.{List, [], _∷_, _++_, append-assoc, append-nil}
+use mathlib.Core.List.{List, [], _∷_, append-assoc, append-nil}
 use mathlib.Core.Option.{Option, none, some}
 use mathlib.Core.Bool.{Bool, true, false}
 use native.Mathlib.Omega.{arith}
 use lib.ListN.{length, getD, List·getD-eq-default}
 use lib.Dec.{ltb}
 use borrow.Author.Tests.{ne-eqb, lt-ltb, ltb-true, ltb-false, eqb-true}
-use Rattle.refusal.specs.Outcome.{accepted, refused, store, pick}
+use Rattle.refusal.specs.Outcome.{accepted, refused, store}
 use Rattle.refusal.specs.Number.{numberOf}
 use Rattle.refusal.specs.declared.Refusal.{Refusal}
 use Rattle.refusal.proofs.Laws.{inverted, picked}
-use Rattle.varint.specs.Number.{bound, numberBytes}
 use Rattle.marks.specs.Mark.{marked}
 use Rattle.connection_id.proofs.Laws.{cid-same}
 use Rattle.parameters.specs.declared.Side.{Side}
-use Rattle.parameters.specs.Catalogue.{number, flag, address, kinds, kindAt, defaults, fits, ids, idAt, parameterIf}
+use Rattle.parameters.specs.Catalogue.{number, flag, kinds, kindAt, defaults, fits, ids, idAt, parameterIf}
 use Rattle.parameters.specs.Values.{Values, Bytes, noValues, isSome, numberIn, optionalIn, optionalOut, flagOut, cidIn, cidOut, tokenIn, tokenOut, recordOf, otherValues, valuesOf, noReserved}
 use Rattle.parameters.specs.Record.{valueRules}
 use Rattle.parameters.proofs.KindLaws.{Fits, IfSome, number-formed}
@@ -34,7 +33,7 @@ use Rattle.reader.proofs.Built.{read-stopped, read-admitted}
 use Rattle.writer.specs.Writing.{reservedBytes, parameterAt, extension, catalogueOrder}
 use Rattle.writer.specs.Stored.{joined, each, numberAt}
 use Rattle.tidy.specs.Tidying.{tidyFrom, tidy}
-use Rattle.tidy.specs.Pieces.{ifDue, numberIf, LowNumbers, Kept, from12, from15, from18, pieces}
+use Rattle.tidy.specs.Pieces.{numberIf, LowNumbers, Kept, from12, from15, from18, pieces}
 use Rattle.tidy.proofs.Laws.{tidied}
 
 -- what is sent for a value that was read: the value, or its number

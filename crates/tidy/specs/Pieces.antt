@@ -1,10 +1,10 @@
 -- What tidying writes, as it is found: from the numbers, and from where the values stand in the extension.
-use Prim.Native.Nat.{ℕ, _-_, _≤_, _<_}
+use Prim.Native.Nat.{ℕ, _-_, _<_}
 use mathlib.Core.Path.{_≡_}
 use mathlib.Core.List.{List, _++_}
 use mathlib.Core.Option.{Option, none, some}
-use mathlib.Core.Bool.{Bool, true}
-use lib.ListN.{length, getD, take, drop}
+use mathlib.Core.Bool.{Bool}
+use lib.ListN.{getD}
 use Rattle.refusal.specs.Outcome.{pick}
 use Rattle.varint.specs.Number.{bound, numberBytes}
 use Rattle.marks.specs.Mark.{marked}

@@ -6,7 +6,6 @@ ghost use Prim.Native.Nat.{_+_, _≤_, _<_};
 ghost use lib.ListN.{length};
 ghost use Rattle.refusal.specs.Outcome.{front, store};
 ghost use Rattle.varint.specs.Number.{bound};
-ghost use Rattle.marks.specs.Mark.{marked};
 ghost use Rattle.parameters.specs.Catalogue.{parameterIf};
 ghost use Rattle.parameters.specs.Values.{flagOut};
 ghost use Rattle.reader.specs.Index.{spans};

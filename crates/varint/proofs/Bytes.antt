@@ -1,8 +1,7 @@
 -- Laws of big-endian bytes at every width, and of the tag. Assumes nothing.
 use Prim.Native.Nat.{ℕ, zero, suc, _+_, _-_, _*_, _/_, _%_, _^_, _≤_, _<_}
 use mathlib.Core.Path.{_≡_, refl, ap, sym, _∙_}
-use mathlib.Core.List.{List, [], _∷_, _++_}
-use mathlib.Core.Bool.{Bool, true, false}
+use mathlib.Core.List.{List, [], _∷_}
 use native.Mathlib.Nat.{pow-succ', add-mul, mul-assoc, add-assoc, mod-eq-of-lt, one-le-pow, div-lt-iff-lt-mul}
 use native.Mathlib.Omega.{arith}
 use lib.ListN.{length, getD, take, drop}
@@ -11,7 +10,7 @@ use lib.Arith.{mod-mul}
 use lib.Dec.{leb}
 use lib.Bits.{bitOr, or-shifted}
 use borrow.Author.Tests.{ltb-true, ltb-false, lt-ltb, le-ltb, le-leb, lt-leb}
-use Rattle.refusal.specs.Outcome.{Outcome, accepted, refused, pick, front}
+use Rattle.refusal.specs.Outcome.{accepted, refused, pick, front}
 use Rattle.refusal.proofs.Laws.{pick-cases}
 use Rattle.varint.specs.Number.{valueFrom, bytesOf, tagOf, form, numberBytes, readNumber}
 

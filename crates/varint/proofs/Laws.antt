@@ -2,12 +2,12 @@
 --     read-number-bytes     what was written is read back, whatever follows it
 --     read-bounds           what is read is below 2 ^ 62, lies within the bytes, and is no shorter than the shortest form
 use Prim.Native.Nat.{ℕ, zero, suc, _+_, _-_, _*_, _/_, _%_, _^_, _≤_, _<_}
-use mathlib.Core.Path.{_≡_, refl, ap, sym, _∙_}
+use mathlib.Core.Path.{_≡_, refl, ap}
 use mathlib.Core.List.{List, [], _∷_, _++_}
 use mathlib.Core.Bool.{Bool, true, false}
 use native.Mathlib.Nat.{div-add-mod'}
 use native.Mathlib.Omega.{arith}
-use lib.ListN.{length, getD, take, drop, length-append}
+use lib.ListN.{length, getD, take, length-append}
 use lib.Seq.{take-at, length-take-le}
 use lib.Pow.{pow-mono, pow-pos}
 use lib.Arith.{digits-div, digits-mod}

@@ -2,7 +2,6 @@
 use Prim.Native.Nat.{ℕ}
 use Rattle.refusal.specs.Outcome.{Outcome, accepted, refused}
 use Rattle.refusal.specs.Number.{numberOf}
-use Rattle.varint.specs.declared.VarInt.{VarInt}
 use Rattle.varint.specs.declared.Converted.{Converted}
 use Rattle.varint.specs.declared.Converted.the-variants.{Number, Refused as RefusedC}
 use Rattle.varint.specs.declared.Decoded.{Decoded}

@@ -1,7 +1,7 @@
 -- What the code answers at each `return`, as the definitions have it. Assumes nothing.
 use Prim.Native.Nat.{ℕ, _≤_, _<_}
-use mathlib.Core.List.{List, _++_}
-use mathlib.Core.Path.{_≡_, refl, ap, ap₂, sym, _∙_}
+use mathlib.Core.List.{List}
+use mathlib.Core.Path.{_≡_, ap, ap₂, sym, _∙_}
 use mathlib.Core.Bool.{true, false}
 use native.Mathlib.Omega.{arith}
 use lib.ListN.{length, take, drop}
@@ -11,7 +11,7 @@ use Rattle.refusal.specs.Outcome.{Outcome, accepted, refused, front, store}
 use Rattle.parameters.specs.declared.TransportParameters.{TransportParameters}
 use Rattle.parameters.specs.Record.{wellFormed}
 use Rattle.writer.specs.Writing.{parameterAt, extension, permutation, catalogueOrder, orderOf, write}
-use Rattle.writer.specs.Stored.{Wrote, Laid, joined, each}
+use Rattle.writer.specs.Stored.{Wrote, Laid, each}
 use Rattle.writer.proofs.Orders.{in-catalogue}
 use Rattle.writer.proofs.Extension.{length-extension}
 use Rattle.writer.proofs.Stored.{wrote-as}

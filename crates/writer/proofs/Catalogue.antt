@@ -6,17 +6,17 @@
 --     in-catalogue-order    their parameters, one after another, are the extension in catalogue order
 use Prim.Native.Nat.{ℕ, _+_, _≤_, _<_}
 use mathlib.Core.List.{List, [], _∷_, _++_}
-use mathlib.Core.Path.{_≡_, refl, ap, sym, _∙_}
+use mathlib.Core.Path.{_≡_, refl, ap, _∙_}
 use mathlib.Core.Bool.{true}
 use native.Mathlib.Omega.{arith}
 use lib.ListN.{length, getD}
-use lib.Seq.{sets, length-sets}
+use lib.Seq.{length-sets}
 use borrow.Author.Tests.{eqb-true}
 use Rattle.refusal.proofs.Laws.{all-at}
 use Rattle.varint.specs.Number.{bound}
 use Rattle.parameters.specs.declared.TransportParameters.{TransportParameters}
 use Rattle.parameters.specs.Catalogue.{ids, idAt, defaults, parameterIf}
-use Rattle.parameters.specs.Values.{numberOut, optionalOut, flagOut, cidOut, tokenOut, addressOut, otherValues, valuesOf}
+use Rattle.parameters.specs.Values.{optionalOut, flagOut, cidOut, tokenOut, addressOut, otherValues, valuesOf}
 use Rattle.parameters.specs.Record.{formedOptional, formedOptionalCid, formedAddress, formedReserved, formedOrder, wellFormed}
 use Rattle.parameters.proofs.Places.{number-lt}
 use Rattle.writer.specs.Writing.{reservedBytes, parameterAt, extension, catalogueOrder}

@@ -1,20 +1,20 @@
 -- What is due of each kind. Assumes nothing.
-use Prim.Native.Nat.{ℕ, suc, _+_, _-_, _/_, _%_, _≤_, _<_}
+use Prim.Native.Nat.{ℕ, _+_, _-_, _/_, _%_, _≤_, _<_}
 use mathlib.Core.List.{List, [], _∷_, _++_}
-use mathlib.Core.Path.{_≡_, refl, ap, sym, _∙_}
+use mathlib.Core.Path.{_≡_, refl, ap, sym}
 use mathlib.Core.Bool.{Bool, true, false}
 use native.Mathlib.Omega.{arith}
 use native.Mathlib.Nat.{mod-eq-of-lt, div-one}
 use lib.ListN.{length, take, drop, set}
 use lib.Seq.{length-take-le}
 use borrow.Author.Tests.{eq-eqb, ne-eqb, ltb-true, leb-true, eqb-true}
-use Rattle.refusal.specs.Outcome.{pick, all, front}
+use Rattle.refusal.specs.Outcome.{front}
 use Rattle.refusal.proofs.Laws.{all-at}
 use Rattle.varint.specs.Number.{bound, bytesOf, form, tagOf, numberBytes}
 use Rattle.varint.proofs.Bytes.{stored}
 use Rattle.connection_id.specs.declared.ConnectionId.{ConnectionId}
 use Rattle.connection_id.specs.ConnectionId.{cidBytes, cidWire, formedCid}
-use Rattle.connection_id.proofs.Laws.{Cid, cid-facts, cid-length}
+use Rattle.connection_id.proofs.Laws.{cid-facts}
 use Rattle.parameters.specs.declared.OptionalNumber.{OptionalNumber}
 use Rattle.parameters.specs.declared.OptionalNumber.the-variants.{Absent, Present}
 use Rattle.parameters.specs.declared.OptionalConnectionId.{OptionalConnectionId}

@@ -6,7 +6,7 @@
 --     wrote-front     a byte stored in front of what a writer left
 --     encoded, never  a number that there is room for is stored, and not refused
 --     short-form      a parameter whose identifier and length are one byte each
-use Prim.Native.Nat.{ℕ, suc, _+_, _-_, _^_, _≤_, _<_}
+use Prim.Native.Nat.{ℕ, suc, _+_, _-_, _≤_, _<_}
 use mathlib.Core.List.{List, [], _∷_, _++_, append-assoc, append-nil}
 use mathlib.Core.Path.{_≡_, refl, ap, ap₂, sym, _∙_}
 use native.Mathlib.Omega.{arith}

@@ -22,7 +22,6 @@ use Rattle.connection_id.specs.declared.DecodedCid.{DecodedCid}
 use Rattle.connection_id.specs.declared.CidAnswer.the-variants.{Count, Refused as RefusedC}
 use Rattle.connection_id.specs.ConnectionId.{formedCid, readCid}
 use Rattle.connection_id.specs.Answer.{withCid, readOutcome, settled}
-use Rattle.parameters.specs.declared.TransportParameters.{TransportParameters}
 use Rattle.parameters.specs.declared.Side.{Side}
 use Rattle.reader.specs.declared.Reading.{Reading}
 use Rattle.reader.specs.declared.Answer.the-variants.{Accepted as AcceptedR, Refused as RefusedR}

@@ -1,8 +1,8 @@
 -- What the functions of the C interface answer and leave behind their pointers, by the definitions of the operations. A code is 0 or the
 -- number of a refusal, and a refused call leaves everything as it was.
 use Prim.Native.Nat.{ℕ}
-use mathlib.Core.List.{List, []}
-use mathlib.Core.Bool.{Bool, true, false, not}
+use mathlib.Core.List.{List}
+use mathlib.Core.Bool.{not}
 use lib.ListN.{length, getD, replicate}
 use lib.Dec.{eqb}
 use Rattle.refusal.specs.Outcome.{Outcome, accepted, refused, pick, andThen, store}
@@ -10,7 +10,6 @@ use Rattle.varint.specs.Number.{readNumber, writeNumber}
 use Rattle.connection_id.specs.declared.ConnectionId.{ConnectionId}
 use Rattle.connection_id.specs.ConnectionId.{readCid, writeCid}
 use Rattle.parameters.specs.declared.TransportParameters.{TransportParameters}
-use Rattle.parameters.specs.declared.OptionalNumber.{OptionalNumber}
 use Rattle.parameters.specs.declared.OptionalNumber.the-variants.{Absent, Present}
 use Rattle.parameters.specs.declared.Side.{Side}
 use Rattle.parameters.specs.declared.Side.the-variants.{Client, Server}

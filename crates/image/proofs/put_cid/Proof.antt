@@ -1,6 +1,6 @@
 -- `image::put_cid` meets its contract. Assumes nothing.
 use native.Mathlib.Omega.{arith}
-use mathlib.Core.Path.{_≡_, refl, _∙_}
+use mathlib.Core.Path.{_≡_, _∙_}
 use lib.ListN.{length, length-set}
 use Rattle.image.proofs.Stores.{cid-stored}
 use borrow.Author.Needs.{needs}

@@ -1,5 +1,4 @@
 -- `image::put_flag` meets its contract. Assumes nothing.
-use mathlib.Core.Path.{ap}
 use borrow.Author.Needs.{needs}
 use Rattle.image.proofs.put_flag.Statement.{statement}
 use Rattle.image.proofs.put_flag.Tie as tie

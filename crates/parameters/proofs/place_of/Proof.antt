@@ -1,6 +1,5 @@
 -- `parameters::place_of` meets its contract, at each identifier. Assumes nothing.
 use Rattle.parameters.proofs.Tests.{unknown}
-use native.Mathlib.Omega.{arith}
 use Rattle.parameters.specs.Catalogue.{placeOf, ids}
 use borrow.Author.Needs.{needs}
 use Rattle.parameters.proofs.place_of.Statement.{statement}

@@ -1,6 +1,6 @@
 -- `reader::address_at` meets its contract. Assumes nothing.
 use Rattle.reader.specs.Index.{spans}
-use mathlib.Core.Path.{_≡_, refl, ap, ap₂, sym, _∙_}
+use mathlib.Core.Path.{sym, _∙_}
 use borrow.Author.Needs.{needs}
 use Rattle.reader.proofs.address_at.Statement.{statement}
 use Rattle.reader.proofs.address_at.Tie as tie

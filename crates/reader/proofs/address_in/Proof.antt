@@ -1,7 +1,7 @@
 -- `reader::address_in` meets its contract. Assumes nothing.
 use Rattle.parameters.specs.Values.{recordOf, noValues}
-use mathlib.Core.Bool.{false, true}
-use mathlib.Core.Path.{_≡_, refl, ap, ap₂, sym, _∙_}
+use mathlib.Core.Bool.{false}
+use mathlib.Core.Path.{_≡_, _∙_}
 use borrow.Author.Needs.{needs}
 use Rattle.reader.proofs.address_in.Statement.{statement}
 use Rattle.reader.proofs.address_in.Tie as tie

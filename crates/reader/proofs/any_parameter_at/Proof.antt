@@ -4,9 +4,9 @@ use Rattle.varint.specs.Answer.{readOutcome}
 use Rattle.varint.specs.Number.{readNumber}
 use Rattle.refusal.specs.Outcome.{accepted}
 use lib.ListN.{length}
-use Prim.Native.Nat.{ℕ, _+_, _≤_}
+use Prim.Native.Nat.{_+_, _≤_}
 use native.Mathlib.Omega.{arith}
-use mathlib.Core.Path.{_≡_, refl, ap, sym, _∙_}
+use mathlib.Core.Path.{_≡_, ap, sym, _∙_}
 use borrow.Author.Needs.{needs}
 use Rattle.reader.proofs.any_parameter_at.Statement.{statement}
 use Rattle.reader.proofs.any_parameter_at.Tie as tie

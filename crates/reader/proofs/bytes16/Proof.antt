@@ -1,7 +1,7 @@
 -- `reader::bytes16` meets its contract. The invariant: the first `i` bytes stand over zeros. Assumes nothing.
-use Prim.Native.Nat.{ℕ, _≤_, _-_}
+use Prim.Native.Nat.{_≤_, _-_}
 use native.Mathlib.Omega.{arith}
-use mathlib.Core.Path.{_≡_, sym, _∙_}
+use mathlib.Core.Path.{_≡_, _∙_}
 use mathlib.Core.List.{append-nil}
 use lib.ListN.{length, replicate}
 use lib.Seq.{paste, paste-zero}

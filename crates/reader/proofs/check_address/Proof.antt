@@ -1,7 +1,7 @@
 -- `reader::check_address` meets its contract: the tests that led to each `return` pick the case. Assumes nothing.
 use Rattle.reader.proofs.Checks.{address-none, address-id, address-short, address-illegal, address-fits, address-left}
 use native.Mathlib.Omega.{arith}
-use mathlib.Core.Path.{_≡_, refl, ap, sym, _∙_}
+use mathlib.Core.Path.{sym, _∙_}
 use borrow.Author.Needs.{needs}
 use Rattle.reader.proofs.check_address.Statement.{statement}
 use Rattle.reader.proofs.check_address.Tie as tie

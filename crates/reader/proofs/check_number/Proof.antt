@@ -1,7 +1,7 @@
 -- `reader::check_number` meets its contract: the number's answer picks the case. Assumes nothing.
 use Rattle.varint.specs.Answer.{readOutcome}
 use Rattle.reader.proofs.Checks.{number-unread, number-fits, number-misfit}
-use mathlib.Core.Path.{_≡_, refl, ap, sym, _∙_}
+use mathlib.Core.Path.{ap, sym, _∙_}
 use borrow.Author.Needs.{needs}
 use Rattle.reader.proofs.check_number.Statement.{statement}
 use Rattle.reader.proofs.check_number.Tie as tie

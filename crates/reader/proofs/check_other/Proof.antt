@@ -3,7 +3,7 @@ use Rattle.reader.proofs.Checks.{by-length, cid-kind, for-place}
 use Rattle.reader.specs.Index.{numberOf, checkKind}
 use Rattle.parameters.specs.Catalogue.{number, flag, cid, token, address, kindAt, kinds, otherKinds, fits, illegal}
 use native.Mathlib.Omega.{arith}
-use mathlib.Core.Path.{_≡_, refl, ap, sym, _∙_}
+use mathlib.Core.Path.{_≡_, refl, _∙_}
 use borrow.Author.Needs.{needs}
 use Rattle.reader.proofs.check_other.Statement.{statement}
 use Rattle.reader.proofs.check_other.Tie as tie

@@ -1,7 +1,7 @@
 -- `reader::id_length` meets its contract. Assumes nothing.
 use Rattle.reader.proofs.Built.{no-id, id-within, id-at}
 use Rattle.parameters.proofs.Tests.{not-true, not-false}
-use mathlib.Core.Path.{_≡_, refl, ap, ap₂, sym, _∙_}
+use mathlib.Core.Path.{sym, _∙_}
 use borrow.Author.Needs.{needs}
 use Rattle.reader.proofs.id_length.Statement.{statement}
 use Rattle.reader.proofs.id_length.Tie as tie

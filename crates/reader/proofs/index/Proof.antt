@@ -2,7 +2,6 @@
 use mathlib.Core.Path.{refl}
 use Rattle.parameters.specs.Catalogue.{defaults}
 use Rattle.reader.specs.Index.{initialNumbers}
-use borrow.Author.Needs.{needs}
 use Rattle.reader.proofs.index.Statement.{statement}
 use Rattle.reader.proofs.index.Tie as tie
 

@@ -3,7 +3,7 @@ use Rattle.reader.proofs.Built.{spanned, rules-built}
 use Rattle.parameters.specs.Catalogue.{address, kindAt, kinds, otherKinds}
 use Rattle.connection_id.proofs.Laws.{and-true}
 use Rattle.parameters.proofs.Tests.{not-true, not-false}
-use mathlib.Core.Path.{_≡_, refl, ap, ap₂, sym, _∙_}
+use mathlib.Core.Path.{refl, sym, _∙_}
 use borrow.Author.Needs.{needs}
 use Rattle.reader.proofs.is_allowed.Statement.{statement}
 use Rattle.reader.proofs.is_allowed.Tie as tie

@@ -1,6 +1,6 @@
 -- `reader::numbers_of` meets its contract. Assumes nothing.
 use Rattle.reader.proofs.Built.{taken}
-use mathlib.Core.Path.{_≡_, refl, ap, ap₂, sym, _∙_}
+use mathlib.Core.Path.{sym}
 use native.Mathlib.Omega.{arith}
 use borrow.Author.Needs.{needs}
 use Rattle.reader.proofs.numbers_of.Statement.{statement}

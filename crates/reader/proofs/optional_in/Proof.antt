@@ -1,5 +1,4 @@
 -- `reader::optional_in` meets its contract. Assumes nothing.
-use borrow.Author.Needs.{needs}
 use Rattle.reader.proofs.optional_in.Statement.{statement}
 use Rattle.reader.proofs.optional_in.Tie as tie
 

@@ -3,7 +3,7 @@ use Rattle.reader.proofs.Checks.{second-copy, no-copy, repeats}
 use Rattle.reader.specs.Reading.{mayRepeat}
 use Rattle.parameters.proofs.Tests.{not-true, not-false}
 use mathlib.Core.Logic.{⊎-elim}
-use mathlib.Core.Path.{_≡_, refl, ap, sym, _∙_}
+use mathlib.Core.Path.{sym, _∙_}
 use borrow.Author.Needs.{needs}
 use Rattle.reader.proofs.receive.Statement.{statement}
 use Rattle.reader.proofs.receive.Tie as tie

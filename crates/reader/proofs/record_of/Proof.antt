@@ -3,7 +3,7 @@ use Rattle.reader.proofs.Built.{spanned, numbers-built, optional-built}
 use Rattle.reader.proofs.Turn.{spans-met}
 use Rattle.parameters.specs.Values.{recordOf, noReserved, noOrder}
 use Rattle.parameters.specs.Catalogue.{cid, token, address, kindAt, kinds, otherKinds, defaults}
-use mathlib.Core.Path.{_≡_, refl, ap, ap₂, sym, _∙_}
+use mathlib.Core.Path.{refl}
 use native.Mathlib.Omega.{arith}
 use borrow.Author.Needs.{needs}
 use Rattle.reader.proofs.record_of.Statement.{statement}

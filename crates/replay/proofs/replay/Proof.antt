@@ -1,6 +1,5 @@
 -- The measure is the number of turns that are left. Nothing has to hold from turn to turn.
 use native.Mathlib.Omega.{arith}
-use borrow.Author.Needs.{needs}
 use Rattle.replay.proofs.replay.Statement.{statement}
 use Rattle.replay.proofs.replay.Tie as tie
 

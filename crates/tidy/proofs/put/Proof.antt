@@ -1,7 +1,7 @@
 -- `tidy::put` meets its contract. Assumes nothing.
 use borrow.Author.Needs.{needs}
 use native.Mathlib.Omega.{arith}
-use mathlib.Core.Path.{_≡_, ap, sym, _∙_}
+use mathlib.Core.Path.{ap, sym, _∙_}
 use lib.ListN.{length}
 use Rattle.writer.proofs.Answers.{stored-short, stored-whole, stored-copy, whole-part}
 use Rattle.tidy.proofs.put.Statement.{statement}

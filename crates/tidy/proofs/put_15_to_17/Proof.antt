@@ -1,7 +1,6 @@
 -- `tidy::put_15_to_17` meets its contract. Assumes nothing.
 use borrow.Author.Needs.{needs}
 use native.Mathlib.Omega.{arith}
-use mathlib.Core.Path.{refl}
 use Rattle.parameters.specs.Catalogue.{kinds, kindAt}
 use Rattle.tidy.specs.Pieces.{longestOf, longestAt, from15}
 use Rattle.writer.proofs.Stored.{lent-room, wrote-then, wrote-three}

@@ -1,7 +1,6 @@
 -- `timing::timing_read` meets its contract. The invariant: what is kept is what the last of `i` calls gave. Assumes nothing.
 use Prim.Native.Nat.{_≤_, _-_}
 use native.Mathlib.Omega.{arith}
-use native.Mathlib.Numerals.{add-one}
 use mathlib.Core.Path.{_≡_, refl, ap, _∙_}
 use Rattle.parameters.specs.declared.Side.the-variants.{Client}
 use Rattle.reader.specs.Reading.{read}

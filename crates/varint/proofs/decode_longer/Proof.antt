@@ -2,7 +2,7 @@
 use Rattle.varint.proofs.Bytes.{read-short, read-whole, joined}
 use Rattle.refusal.specs.Outcome.{accepted}
 use lib.Bits.{and-mask}
-use Prim.Native.Nat.{ℕ, _/_, _%_, _<_, _≤_}
+use Prim.Native.Nat.{_/_}
 use lib.ListN.{getD}
 use mathlib.Core.Path.{_≡_, refl, ap, sym, _∙_}
 use native.Mathlib.Omega.{arith}

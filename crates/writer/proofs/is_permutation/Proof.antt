@@ -1,9 +1,8 @@
 -- `writer::is_permutation` meets its contract. The invariant: the entries from `i` on are distinct places, and these are marked. Assumes nothing.
 use Prim.Native.Nat.{_≤_, _<_, _-_}
 use native.Mathlib.Omega.{arith}
-use mathlib.Core.Path.{_≡_, refl, ap, sym, _∙_}
+use mathlib.Core.Path.{_≡_, sym, _∙_}
 use mathlib.Core.Bool.{true}
-use borrow.Author.Tests.{not-true, not-false}
 use lib.ListN.{length, drop, getD, drop-of-length-le}
 use Rattle.parameters.specs.Catalogue.{places}
 use Rattle.writer.specs.Writing.{distinct}

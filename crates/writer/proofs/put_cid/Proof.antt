@@ -1,11 +1,8 @@
 -- `writer::put_cid` meets its contract. Assumes nothing.
 use native.Mathlib.Omega.{arith}
-use Prim.Native.Nat.{_≤_}
-use mathlib.Core.Path.{_≡_, refl, sym, ap, _∙_}
-use lib.ListN.{length, take, length-take, length-drop}
-use lib.Seq.{length-take-le}
+use mathlib.Core.Path.{refl, sym}
+use lib.ListN.{length-take, length-drop}
 use borrow.Author.Tests.{not-true, not-false}
-use Rattle.connection_id.proofs.Laws.{Cid}
 use Rattle.writer.proofs.Stored.{wrote-none, wrote-few, wrote-front}
 use Rattle.writer.proofs.Due.{cid-absent, cid-part, cid-due}
 use borrow.Author.Needs.{needs}

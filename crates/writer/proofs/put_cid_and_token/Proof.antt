@@ -1,7 +1,7 @@
 -- `writer::put_cid_and_token` meets its contract. Assumes nothing.
 use Prim.Native.Nat.{_≤_}
 use native.Mathlib.Omega.{arith}
-use mathlib.Core.Path.{_≡_, refl, sym}
+use mathlib.Core.Path.{_≡_, sym}
 use lib.ListN.{length, length-take, length-drop}
 use Rattle.writer.proofs.Stored.{wrote-as, wrote-few, wrote-then}
 use Rattle.writer.proofs.Due.{id-part, id-wire}

@@ -1,7 +1,6 @@
 -- `writer::put_min_ack_delay_id` meets its contract. Assumes nothing.
 use native.Mathlib.Omega.{arith}
 use lib.ListN.{length-set}
-use Rattle.varint.specs.Number.{numberBytes}
 use Rattle.varint.proofs.Bytes.{stored}
 use Rattle.writer.proofs.Due.{ack-id}
 use borrow.Author.Needs.{needs}

@@ -1,8 +1,4 @@
 -- `writer::put_number` meets its contract: with room for any number none is refused. Assumes nothing.
-use native.Mathlib.Omega.{arith}
-use Prim.Native.Nat.{ℕ}
-use mathlib.Core.Path.{_≡_, ap, sym, _∙_}
-use Rattle.varint.specs.Answer.{writeOutcome}
 use Rattle.writer.proofs.Stored.{encoded, never}
 use borrow.Author.Needs.{needs}
 use Rattle.writer.proofs.put_number.Statement.{statement}

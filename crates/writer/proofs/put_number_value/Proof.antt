@@ -1,4 +1,3 @@
-use mathlib.Core.Path.{refl}
 use native.Mathlib.Omega.{arith}
 use Rattle.writer.proofs.Stored.{wrote-front}
 use borrow.Author.Needs.{needs}

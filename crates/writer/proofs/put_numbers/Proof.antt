@@ -1,7 +1,7 @@
 -- `writer::put_numbers` meets its contract. The invariant: the first `i` places are laid. Assumes nothing.
 use Prim.Native.Nat.{_≤_, _-_, _*_}
 use native.Mathlib.Omega.{arith}
-use mathlib.Core.Path.{_≡_, refl, ap, sym, _∙_}
+use mathlib.Core.Path.{_≡_, refl, _∙_}
 use lib.ListN.{length, length-set, length-take, length-drop}
 use Rattle.parameters.specs.Catalogue.{defaults}
 use Rattle.writer.specs.Stored.{Laid, each, numberAt}

@@ -1,8 +1,8 @@
 -- `writer::put_ordered` meets its contract. The invariant: the parameters at the first `k` places of the order stand at the front. Assumes nothing.
-use Prim.Native.Nat.{_+_, _-_, _≤_}
+use Prim.Native.Nat.{_-_, _≤_}
 use native.Mathlib.Omega.{arith}
-use mathlib.Core.Path.{_≡_, refl, ap, sym, _∙_}
-use lib.ListN.{length, getD, take, length-take, length-drop}
+use mathlib.Core.Path.{_≡_, refl}
+use lib.ListN.{length, take}
 use lib.Seq.{take-all}
 use Rattle.writer.specs.Writing.{concatOf}
 use Rattle.writer.specs.Stored.{Wrote, partAt}

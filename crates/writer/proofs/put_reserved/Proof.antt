@@ -1,7 +1,7 @@
 -- `writer::put_reserved` meets its contract. Assumes nothing.
 use native.Mathlib.Omega.{arith}
-use mathlib.Core.Path.{_≡_, refl, sym}
-use lib.ListN.{length, length-take, length-drop}
+use mathlib.Core.Path.{sym}
+use lib.ListN.{length-take, length-drop}
 use borrow.Author.Tests.{not-true, not-false}
 use Rattle.writer.proofs.Stored.{wrote-none, wrote-few, wrote-then}
 use Rattle.writer.proofs.Due.{reserved-known, reserved-absent, reserved-part, reserved-due}

@@ -1,5 +1,5 @@
 -- `writer::write` meets its contract: the tests that led to each `return` pick the case of the definition. Assumes nothing.
-use mathlib.Core.Path.{_≡_, sym, _∙_}
+use mathlib.Core.Path.{sym, _∙_}
 use borrow.Author.Tests.{not-true, not-false}
 use Rattle.writer.proofs.Answers.{write-ill, write-in-catalogue}
 use borrow.Author.Needs.{needs}

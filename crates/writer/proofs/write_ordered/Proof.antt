@@ -1,7 +1,5 @@
 -- `writer::write_ordered` meets its contract. Assumes nothing.
 use native.Mathlib.Omega.{arith}
-use mathlib.Core.Path.{_≡_, refl, ap, sym, _∙_}
-use lib.ListN.{length}
 use Rattle.writer.proofs.Ordered.{ordered, in-order}
 use Rattle.writer.proofs.Stored.{wrote-as}
 use Rattle.writer.proofs.Answers.{stored-short, stored-whole, catalogue-wrote, any-order}

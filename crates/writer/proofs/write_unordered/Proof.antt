@@ -1,7 +1,7 @@
 -- `writer::write_unordered` meets its contract. Assumes nothing.
 use native.Mathlib.Omega.{arith}
-use mathlib.Core.Path.{_≡_, refl, ap, sym, _∙_}
-use lib.ListN.{length, take}
+use mathlib.Core.Path.{ap, sym, _∙_}
+use lib.ListN.{length}
 use Rattle.writer.proofs.Orders.{in-catalogue}
 use Rattle.writer.proofs.Extension.{longest}
 use Rattle.writer.proofs.Answers.{stored-short, stored-whole, stored-copy, catalogue-wrote, whole-part}

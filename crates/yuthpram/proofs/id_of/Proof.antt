@@ -1,6 +1,4 @@
 -- `yuthpram::id_of` meets its contract. Assumes nothing.
-use mathlib.Core.Path.{ap, sym, _∙_}
-use Rattle.yuthpram.specs.Interface.{idOr}
 use Rattle.yuthpram.proofs.Answers.{cid-in, cid-out}
 use borrow.Author.Needs.{needs}
 use Rattle.yuthpram.proofs.id_of.Statement.{statement}

@@ -1,7 +1,7 @@
 -- `yuthpram::store_cid` meets its contract. Assumes nothing.
-use mathlib.Core.Path.{ap, _∙_}
+use mathlib.Core.Path.{ap}
 use Rattle.image.specs.Answer.{storeOutcome}
-use Rattle.yuthpram.specs.Interface.{counting, cidStore}
+use Rattle.yuthpram.specs.Interface.{cidStore}
 use Rattle.yuthpram.proofs.Answers.{cid-counted, cid-not}
 use borrow.Author.Needs.{needs}
 use Rattle.yuthpram.proofs.store_cid.Statement.{statement}

@@ -1,7 +1,7 @@
 -- `parameters::TransportParameters::check` meets its contract. Assumes nothing.
 use Rattle.parameters.proofs.Tests.{not-true, not-false}
 use Rattle.parameters.specs.Record.{checkRecord, legal}
-use mathlib.Core.Path.{_≡_, sym, _∙_}
+use mathlib.Core.Path.{sym, _∙_}
 use Rattle.refusal.specs.Outcome.{all}
 use Rattle.connection_id.proofs.Laws.{and-true}
 use borrow.Author.Needs.{needs}

@@ -1,6 +1,6 @@
 -- `varint::VarInt::decode` meets its contract. Assumes nothing.
 use Rattle.refusal.specs.Outcome.{accepted}
-use Prim.Native.Nat.{ℕ, _/_, _%_, _<_, _≤_}
+use Prim.Native.Nat.{_/_, _<_}
 use lib.ListN.{length, getD}
 use mathlib.Core.Path.{_≡_, refl, ap, sym, _∙_}
 use Rattle.varint.proofs.Bytes.{read-none, read-whole}

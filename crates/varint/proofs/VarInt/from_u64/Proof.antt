@@ -2,7 +2,7 @@
 use Prim.Native.Nat.{_<_, _^_}
 use native.Mathlib.Omega.{arith}
 use Rattle.varint.specs.Number.{convertNumber}
-use borrow.Author.Tests.{lt-ltb, le-ltb, le-leb, lt-leb}
+use borrow.Author.Tests.{lt-ltb, le-ltb}
 use Rattle.varint.proofs.VarInt.from_u64.Statement.{statement}
 use Rattle.varint.proofs.VarInt.from_u64.Tie as tie
 
