@@ -2,7 +2,8 @@
 use Prim.Native.Nat.{ℕ, _-_, _≤_}
 use mathlib.Core.List.{List}
 use mathlib.Core.Bool.{Bool}
-use lib.ListN.{take, drop}
+use mathlib.Core.Path.{_≡_}
+use lib.ListN.{take, drop, replicate}
 use Rattle.refusal.specs.Outcome.{Result, accepted, refused, Outcome, pick}
 use Rattle.refusal.specs.Number.{numberOf}
 use Rattle.refusal.specs.declared.Refusal.{Refusal}
@@ -21,7 +22,7 @@ use Rattle.reader.specs.declared.Value.{Value}
 use Rattle.reader.specs.declared.Value.the-variants.{Fits, Wrong}
 use Rattle.reader.specs.declared.Scanned.{Scanned}
 use Rattle.reader.specs.declared.Scanned.the-variants.{Marks, Stopped}
-use Rattle.reader.specs.Index.{spans, Indexed, Received}
+use Rattle.reader.specs.Index.{spans, initialNumbers, Indexed, Received}
 
 abbrev pub refusedWith : Fault → Refusal
 refusedWith Cut = Malformed
@@ -59,6 +60,11 @@ ScanIndexed s (Stopped f) numbers from to = Unit {0}
 abbrev pub ScanReceived : List ℕ → Scanned → List ℕ → List ℕ → List ℕ → Type 0
 ScanReceived s (Marks m) numbers from to = Received s m numbers from to
 ScanReceived s (Stopped f) numbers from to = Unit {0}
+
+-- the same, and nothing of an input that is refused
+abbrev pub IndexSettled : List ℕ → Scanned → List ℕ → List ℕ → List ℕ → Type 0
+IndexSettled s (Marks m) numbers from to = Received s m numbers from to
+IndexSettled s (Stopped f) numbers from to = (numbers ≡ initialNumbers) × (from ≡ replicate 21 0) × (to ≡ replicate 21 0)
 
 -- the value rules hold, or they do not
 abbrev pub scannedIf : Bool → ℕ → Scanned

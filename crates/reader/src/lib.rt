@@ -12,7 +12,7 @@ ghost use Rattle.parameters.specs.Values.{noValues, cidIn, tokenIn, addressIn, 
 ghost use Rattle.parameters.specs.Record.{valueRules};
 ghost use Rattle.reader.specs.Reading.{mayRepeat, readParameter, parse, read};
 ghost use Rattle.reader.specs.Index.{admitted, spans, checkKind, checkValue, receiveValue, initialNumbers, Spanned, Received};
-ghost use Rattle.reader.specs.Answer.{parameterOutcome, Within, valueOutcome, scanOutcome, ScanIndexed, ScanReceived, scannedIf, readOutcome, settled, refusedWith, refusedReading, judged};
+ghost use Rattle.reader.specs.Answer.{parameterOutcome, Within, valueOutcome, scanOutcome, ScanIndexed, ScanReceived, IndexSettled, scannedIf, readOutcome, settled, refusedWith, refusedReading, judged};
 use connection_id::ConnectionId;
 use parameters::Microseconds;
 use parameters::OptionalConnectionId;
@@ -609,7 +609,8 @@ fn fill(
     }
 }
 
-// The same whatever the three held: `numbers` gets each number by place, `from` and `to` where each value stands.
+// The same whatever the three held: `numbers` gets each number by place, `from` and `to` where each value stands; if refused, they hold what
+// they do before anything is received.
 pub fn index(
     side: Side,
     src: &[u8],
@@ -617,12 +618,20 @@ pub fn index(
     from: &mut [usize; 21],
     to: &mut [usize; 21],
 ) -> Scanned
-    ensures { λ r. ⌜ (scanOutcome (now (src .entry)) r (now (from .exit)) (now (to .exit)) ≡ admitted side (now (src .entry))) × ScanReceived (now (src .entry)) r (now (numbers .exit)) (now (from .exit)) (now (to .exit)) ⌝ }
+    ensures { λ r. ⌜ (scanOutcome (now (src .entry)) r (now (from .exit)) (now (to .exit)) ≡ admitted side (now (src .entry))) × IndexSettled (now (src .entry)) r (now (numbers .exit)) (now (from .exit)) (now (to .exit)) ⌝ }
 {
     *numbers = INITIAL_NUMBERS;
     *from = [0; 21];
     *to = [0; 21];
-    fill(side, src, numbers, from, to)
+    match fill(side, src, numbers, from, to) {
+        Scanned::Marks(met) => Scanned::Marks(met),
+        Scanned::Stopped(fault) => {
+            *numbers = INITIAL_NUMBERS;
+            *from = [0; 21];
+            *to = [0; 21];
+            Scanned::Stopped(fault)
+        }
+    }
 }
 
 // Reads an extension for a side.

@@ -4,7 +4,7 @@ use mathlib.Core.Path.{_≡_, ap, sym, _∙_, subst}
 use Rattle.refusal.specs.Outcome.{accepted}
 use Rattle.reader.specs.declared.Scanned.{Scanned}
 use Rattle.reader.specs.Index.{admitted, spans, Received}
-use Rattle.reader.specs.Answer.{scanOutcome, ScanReceived}
+use Rattle.reader.specs.Answer.{scanOutcome, IndexSettled}
 use Rattle.tidy.proofs.Pieces.{kept, admitted-good, not-read, read-and-written}
 use Rattle.tidy.proofs.tidy.Statement.{statement}
 use Rattle.tidy.proofs.tidy.Tie as tie
@@ -26,7 +26,7 @@ received : (c : tie.After-known-told2) → let x = c .before .before .before .in
     Received (c .before .before .before .before .before .before .before .before .before .args .src .now) (c .before .met .given .0 .0) (x .last .1 .1 .0) (x .last .1 .1 .1 .0) (x .last .1 .1 .1 .1 .0)
 received c =
     let x = c .before .before .before .index in
-    subst (λ (r : Scanned). ScanReceived (c .before .before .before .before .before .before .before .before .before .args .src .now) r (x .last .1 .1 .0) (x .last .1 .1 .1 .0) (x .last .1 .1 .1 .1 .0)) (c .before .met .given .1) (x .ensures .1)
+    subst (λ (r : Scanned). IndexSettled (c .before .before .before .before .before .before .before .before .before .args .src .now) r (x .last .1 .1 .0) (x .last .1 .1 .1 .0) (x .last .1 .1 .1 .1 .0)) (c .before .met .given .1) (x .ensures .1)
 
 accepts : (c : tie.After-known-told2) → let x = c .before .before .before .index in let a = c .before .before .before .before .before .before .before .before .before .args in
     accepted (spans (a .src .now) (c .before .met .given .0 .0) (x .last .1 .1 .1 .0) (x .last .1 .1 .1 .1 .0)) ≡ admitted (a .side) (a .src .now)
