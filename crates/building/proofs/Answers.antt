@@ -14,11 +14,11 @@ use Rattle.refusal.proofs.Laws.{all-at}
 use Rattle.varint.specs.Number.{bound}
 use Rattle.connection_id.specs.declared.ConnectionId.{ConnectionId}
 use Rattle.connection_id.specs.ConnectionId.{formedCid}
-use Rattle.parameters.specs.declared.TransportParameters.{TransportParameters}
-use Rattle.parameters.specs.Record.{defaultRecord}
-use Rattle.writer.specs.Writing.{permutation}
+use Rattle.record.specs.declared.TransportParameters.{TransportParameters}
+use Rattle.record.specs.Record.{defaultRecord}
+use Rattle.order.specs.Order.{permutation}
 use Rattle.building.specs.declared.Settings.{Settings}
-use Rattle.building.specs.declared.Building.the-variants.{Accepted, Refused}
+use Rattle.refusal.specs.declared.Answer.the-variants.{Accepted, Refused}
 use Rattle.building.specs.declared.Built.{Built}
 use Rattle.building.specs.Building.{settingsFit, drawFits, reservedFrom, orderFrom, recordFrom, build}
 use Rattle.building.specs.Answer.{buildOutcome, settled, madeOf}

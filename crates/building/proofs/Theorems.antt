@@ -17,16 +17,18 @@ use Rattle.refusal.proofs.Laws.{all-at, pick-cases}
 use Rattle.varint.specs.Number.{bound}
 use Rattle.connection_id.specs.declared.ConnectionId.{ConnectionId}
 use Rattle.connection_id.specs.ConnectionId.{formedCid}
-use Rattle.connection_id.proofs.Laws.{zeros-replicate}
-use Rattle.parameters.specs.declared.TransportParameters.{TransportParameters}
-use Rattle.parameters.specs.declared.OptionalNumber.{OptionalNumber}
-use Rattle.parameters.specs.declared.OptionalNumber.the-variants.{Absent, Present}
-use Rattle.parameters.specs.declared.OptionalConnectionId.{OptionalConnectionId}
-use Rattle.parameters.specs.Catalogue.{defaults}
-use Rattle.parameters.specs.Values.{noValues}
-use Rattle.parameters.specs.Record.{every, least, formedOptional, formedOptionalCid, formedOptionalToken, formedAddress, formedReserved, formedOrder, wellFormed, defaultRecord}
-use Rattle.parameters.proofs.Places as Places
-use Rattle.writer.specs.Writing.{permutation, orderOf, extension, write}
+use Rattle.words.proofs.Laws.{zeros-replicate}
+use Rattle.record.specs.declared.TransportParameters.{TransportParameters}
+use Rattle.record.specs.declared.OptionalNumber.{OptionalNumber}
+use Rattle.record.specs.declared.OptionalNumber.the-variants.{Absent, Present}
+use Rattle.record.specs.declared.OptionalConnectionId.{OptionalConnectionId}
+use Rattle.catalogue.specs.Catalogue.{defaults}
+use Rattle.record.specs.Values.{noValues}
+use Rattle.words.specs.Words.{every}
+use Rattle.record.specs.Record.{least, formedOptional, formedOptionalCid, formedOptionalToken, formedAddress, formedReserved, formedOrder, wellFormed, defaultRecord}
+use Rattle.record.proofs.Records as Places
+use Rattle.order.specs.Order.{permutation}
+use Rattle.writer.specs.Writing.{orderOf, extension, write}
 use Rattle.building.specs.declared.Settings.{Settings}
 use Rattle.building.specs.Building.{sentSettings, settingsFit, idLimit, cutSize, numbersFrom, drawFits, reservedId, reservedFrom, orderFrom, recordFrom, build}
 use Rattle.building.proofs.Answers.{draw-facts, order-length}

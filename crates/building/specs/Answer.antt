@@ -1,10 +1,10 @@
 -- The code's answers in the papers' terms.
 use Rattle.refusal.specs.Outcome.{Outcome, accepted, refused}
 use Rattle.refusal.specs.Number.{numberOf}
-use Rattle.parameters.specs.declared.TransportParameters.{TransportParameters}
-use Rattle.parameters.specs.Record.{defaultRecord}
-use Rattle.building.specs.declared.Building.{Building}
-use Rattle.building.specs.declared.Building.the-variants.{Accepted, Refused}
+use Rattle.record.specs.declared.TransportParameters.{TransportParameters}
+use Rattle.record.specs.Record.{defaultRecord}
+use Rattle.refusal.specs.declared.Answer.{Answer}
+use Rattle.refusal.specs.declared.Answer.the-variants.{Accepted, Refused}
 use Rattle.building.specs.declared.Built.{Built}
 
 -- the answer joined by the record

@@ -8,14 +8,16 @@ use Rattle.refusal.specs.Outcome.{Outcome, accepted, refused, pick}
 use Rattle.varint.specs.Number.{bound}
 use Rattle.connection_id.specs.declared.ConnectionId.{ConnectionId}
 use Rattle.connection_id.specs.ConnectionId.{formedCid}
-use Rattle.parameters.specs.declared.TransportParameters.{TransportParameters}
-use Rattle.parameters.specs.declared.OptionalNumber.{OptionalNumber}
-use Rattle.parameters.specs.declared.OptionalNumber.the-variants.{Absent, Present}
-use Rattle.parameters.specs.declared.ReservedTransportParameter.{ReservedTransportParameter}
-use Rattle.parameters.specs.declared.WriteOrder.{WriteOrder}
-use Rattle.parameters.specs.Catalogue.{defaults}
-use Rattle.parameters.specs.Record.{every, least, isServer, defaultRecord}
-use Rattle.writer.specs.Writing.{permutation}
+use Rattle.record.specs.declared.TransportParameters.{TransportParameters}
+use Rattle.record.specs.declared.OptionalNumber.{OptionalNumber}
+use Rattle.record.specs.declared.OptionalNumber.the-variants.{Absent, Present}
+use Rattle.record.specs.declared.ReservedTransportParameter.{ReservedTransportParameter}
+use Rattle.record.specs.declared.WriteOrder.{WriteOrder}
+use Rattle.catalogue.specs.Catalogue.{defaults}
+use Rattle.words.specs.Words.{every}
+use Rattle.record.specs.Record.{least, defaultRecord}
+use Rattle.rules.specs.Rules.{isServer}
+use Rattle.order.specs.Order.{permutation}
 use Rattle.building.specs.declared.Settings.{Settings}
 
 -- SETTINGS. Those that are sent as they are have to be below 2 ^ 62; not so a datagram size, which is cut, or the generator's ID length

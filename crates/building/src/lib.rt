@@ -6,16 +6,17 @@ ghost use Prim.Native.Nat.{_-_, _≤_, _<_, min};
 ghost use lib.ListN.{length};
 ghost use Rattle.refusal.specs.Outcome.{pick};
 ghost use Rattle.varint.specs.Number.{bound};
-ghost use Rattle.parameters.specs.Record.{least, isServer, defaultRecord};
+ghost use Rattle.record.specs.Record.{least, defaultRecord};
+ghost use Rattle.rules.specs.Rules.{isServer};
 ghost use Rattle.building.specs.Building.{settingsFit, cutSize, numbersFrom, drawFits, reservedId, reservedFrom, orderFrom, recordFrom, build};
 ghost use Rattle.building.specs.Answer.{madeOf, buildOutcome, settled};
 use connection_id::ConnectionId;
-use parameters::OptionalConnectionId;
-use parameters::OptionalNumber;
-use parameters::ReservedTransportParameter;
-use parameters::Side;
-use parameters::TransportParameters;
-use parameters::WriteOrder;
+use record::OptionalConnectionId;
+use record::OptionalNumber;
+use record::ReservedTransportParameter;
+use rules::Side;
+use record::TransportParameters;
+use record::WriteOrder;
 use refusal::Refusal;
 use varint::VarInt;
 
@@ -182,7 +183,7 @@ fn order_of(order: &[u8]) -> WriteOrder
 {
     let mut places = [0u8; 21];
     let mut i: usize = 0;
-    while i < TransportParameters::PLACES {
+    while i < PLACES {
         places[i] = order[i];
         i += 1;
     }
@@ -275,7 +276,7 @@ pub fn new(
     if !draw_fits(draw, payload) {
         return refuse(Refusal::InvalidDraw);
     }
-    if !writer::is_permutation(order) {
+    if !order::is_permutation(order) {
         return refuse(Refusal::InvalidOrder);
     }
     let reserved = reserved_of(draw, payload);

@@ -12,12 +12,13 @@ use lib.Dec.{ltb}
 use borrow.Author.Tests.{ltb-true, ltb-false, eq-eqb, ne-eqb, eqb-true}
 use Rattle.refusal.specs.Outcome.{accepted, pick}
 use Rattle.refusal.proofs.Laws.{all-at}
-use Rattle.parameters.specs.Catalogue.{places}
-use Rattle.parameters.specs.Values.{Values, noValues, upd}
+use Rattle.catalogue.specs.Catalogue.{places}
+use Rattle.record.specs.Values.{Values, noValues, upd}
 use Rattle.reader.specs.Reading.{parse}
 use Rattle.reader.proofs.Run.{parse-nil, upd-at}
-use Rattle.writer.specs.Writing.{member, distinct, concatOf, permutation}
-use Rattle.writer.proofs.Orders.{first, full}
+use Rattle.order.specs.Order.{member, distinct, permutation}
+use Rattle.writer.specs.Writing.{concatOf}
+use Rattle.order.proofs.Orders.{first, full}
 
 -- values but those of some places
 unfoldable pub without : List ℕ → Values → Values

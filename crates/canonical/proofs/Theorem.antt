@@ -11,13 +11,15 @@ use lib.Dec.{leb}
 use borrow.Author.Tests.{le-leb}
 use Rattle.refusal.specs.Outcome.{Outcome, accepted, refused, pick, front, store}
 use Rattle.refusal.proofs.Laws.{all-at}
-use Rattle.parameters.specs.declared.TransportParameters.{TransportParameters}
-use Rattle.parameters.specs.declared.Side.{Side}
-use Rattle.parameters.specs.Values.{Bytes}
-use Rattle.parameters.specs.Record.{wellFormed, legal, bare}
+use Rattle.record.specs.declared.TransportParameters.{TransportParameters}
+use Rattle.rules.specs.declared.Side.{Side}
+use Rattle.record.specs.Values.{Bytes}
+use Rattle.record.specs.Record.{wellFormed, bare}
+use Rattle.rules.specs.Rules.{legal}
 use Rattle.reader.specs.Reading.{read}
 use Rattle.reader.proofs.Laws.{accepted-legal, same-record, unknown-skipped}
-use Rattle.writer.specs.Writing.{extension, permutation, catalogueOrder, orderOf, write}
+use Rattle.writer.specs.Writing.{extension, orderOf, write}
+use Rattle.order.specs.Order.{permutation, catalogueOrder}
 use Rattle.tidy.specs.Tidying.{tidyFrom, tidy}
 use Rattle.tidy.proofs.Laws.{tidy-formed, tidied}
 use Rattle.canonical.specs.Demand.{Accepts, Demand}

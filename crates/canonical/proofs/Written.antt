@@ -15,22 +15,25 @@ use lib.Dec.{eqb}
 use borrow.Author.Tests.{leb-true, lt-ltb, ltb-true, eqb-true}
 use Rattle.refusal.specs.Outcome.{accepted, pick}
 use Rattle.refusal.proofs.Laws.{all-at}
-use Rattle.parameters.specs.declared.TransportParameters.{TransportParameters}
-use Rattle.parameters.specs.declared.ReservedTransportParameter.{ReservedTransportParameter}
-use Rattle.parameters.specs.declared.Side.{Side}
-use Rattle.parameters.specs.Catalogue.{Kind, number, flag, cid, token, address, reserved, places, idAt, kindAt, parameter, parameterIf}
-use Rattle.parameters.specs.Values.{Bytes, Values, noValues, upd, noReserved, recordOf, valuesOf}
-use Rattle.parameters.specs.Record.{formedReserved, wellFormed, familyRules, valueRules, legal, bare}
-use Rattle.parameters.proofs.Sums.{sum-le}
-use Rattle.parameters.proofs.KindLaws.{widest, IfSome, Sound}
-use Rattle.parameters.proofs.Places.{place-of-id, id-lt, reserved-unknown, valuesOf-none, Families, sound, back, Good, sizeAt, short}
+use Rattle.record.specs.declared.TransportParameters.{TransportParameters}
+use Rattle.record.specs.declared.ReservedTransportParameter.{ReservedTransportParameter}
+use Rattle.rules.specs.declared.Side.{Side}
+use Rattle.catalogue.specs.Catalogue.{Kind, number, flag, cid, token, address, reserved, places, idAt, kindAt, parameter, parameterIf, widest}
+use Rattle.record.specs.Values.{Bytes, Values, noValues, upd, noReserved, recordOf, valuesOf}
+use Rattle.record.specs.Record.{formedReserved, wellFormed, familyRules, bare}
+use Rattle.rules.specs.Rules.{valueRules, legal}
+use Rattle.catalogue.proofs.Sums.{sum-le}
+use Rattle.record.proofs.KindLaws.{IfSome, Sound}
+use Rattle.catalogue.proofs.Places.{place-of-id, id-lt, reserved-unknown}
+use Rattle.record.proofs.Records.{valuesOf-none, Families, sound, back, Good, sizeAt, short}
 use Rattle.reader.specs.Reading.{receive, step, parse, judge, read}
 use Rattle.reader.proofs.Front.{front-parameter}
 use Rattle.reader.proofs.Run.{parse-front, step-unknown, upd-at}
 use Rattle.reader.proofs.Grow.{total, grown}
 use Rattle.reader.proofs.Laws.{accepts, accepted-legal}
-use Rattle.writer.specs.Writing.{reservedBytes, parameterAt, extension, permutation, catalogueOrder}
-use Rattle.writer.proofs.Orders.{in-catalogue}
+use Rattle.writer.specs.Writing.{reservedBytes, parameterAt, extension}
+use Rattle.order.specs.Order.{permutation, catalogueOrder}
+use Rattle.order.proofs.Orders.{in-catalogue}
 use Rattle.writer.proofs.Extension.{length-extension}
 use Rattle.canonical.proofs.AnyOrder.{Adds, every-order}
 

@@ -13,13 +13,15 @@ use mathlib.Core.Logic.{_↔_}
 use mathlib.Core.Bool.{true}
 use lib.ListN.{length, take}
 use Rattle.refusal.specs.Outcome.{Outcome, accepted, refused, front}
-use Rattle.parameters.specs.declared.TransportParameters.{TransportParameters}
-use Rattle.parameters.specs.declared.Side.{Side}
-use Rattle.parameters.specs.Values.{Bytes}
-use Rattle.parameters.specs.Record.{legal, bare}
+use Rattle.record.specs.declared.TransportParameters.{TransportParameters}
+use Rattle.rules.specs.declared.Side.{Side}
+use Rattle.record.specs.Values.{Bytes}
+use Rattle.rules.specs.Rules.{legal}
+use Rattle.record.specs.Record.{bare}
 use Rattle.reader.specs.Reading.{read}
 use Rattle.reader.specs.Whole.{Inserted, concat}
-use Rattle.writer.specs.Writing.{permutation, orderOf, extension, write}
+use Rattle.order.specs.Order.{permutation}
+use Rattle.writer.specs.Writing.{orderOf, extension, write}
 use Rattle.tidy.specs.Tidying.{tidy}
 
 -- the answer is a count n, and P holds of it and of the buffer

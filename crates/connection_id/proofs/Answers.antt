@@ -12,11 +12,13 @@ use Rattle.refusal.specs.Outcome.{Outcome, accepted, refused, all, front, store
 use Rattle.refusal.specs.Number.{numberOf}
 use Rattle.refusal.specs.declared.Refusal.{Refusal}
 use Rattle.connection_id.specs.declared.ConnectionId.{ConnectionId}
-use Rattle.connection_id.specs.declared.CidAnswer.the-variants.{Count, Refused}
+use Rattle.refusal.specs.declared.Counted.the-variants.{Count, Refused}
 use Rattle.connection_id.specs.declared.DecodedCid.{DecodedCid}
-use Rattle.connection_id.specs.ConnectionId.{zeros, cidOf, cidBytes, formedCid, makeCid, readCid, cidWire, writeCid}
+use Rattle.words.specs.Words.{zeros}
+use Rattle.connection_id.specs.ConnectionId.{cidOf, cidBytes, formedCid, makeCid, readCid, cidWire, writeCid}
 use Rattle.connection_id.specs.Answer.{readOutcome, settled, madeOf}
-use Rattle.connection_id.proofs.Laws.{and-true, cid-facts, cid-length}
+use Rattle.words.proofs.Laws.{and-true}
+use Rattle.connection_id.proofs.Laws.{cid-facts, cid-length}
 
 -- the settled answers
 pub refused-with : (d : DecodedCid) (r : Refusal) (o : Outcome (ConnectionId × ℕ)) → d ≡ madeOf (Refused r) (cidOf []) → o ≡ refused (numberOf r)

@@ -1,10 +1,4 @@
 -- Laws of connection IDs. Assumes nothing.
---     zeros-are         zeros are a list of zeros
---     zeros-replicate   a list of zeros is zeros
---     zeros-append      zeros, part by part
---     or-none           bits joined are none exactly if both are none
---     zeros-drop        zeros from a place on: the byte there, and the rest
---     zeros-end         from the end on, only the bits met before count
 --     cid-facts         what it takes to be well formed
 --     cid-length        a well-formed ID has as many bytes as it says
 --     cid-of            a well-formed ID is that of its bytes
@@ -26,53 +20,11 @@ use lib.Dec.{leb, eqb}
 use borrow.Author.Tests.{le-leb, leb-true, eq-eqb, ne-eqb, eqb-true, eqb-false}
 use Rattle.refusal.specs.Outcome.{accepted, all}
 use Rattle.refusal.proofs.Laws.{picked, all-at}
+use Rattle.words.specs.Words.{zeros}
+use Rattle.words.proofs.Laws.{zeros-are, zeros-replicate}
 use Rattle.connection_id.specs.declared.ConnectionId.{ConnectionId}
-use Rattle.connection_id.specs.ConnectionId.{zeros, cidOf, cidBytes, formedCid, readCid, cidWire}
-
-pub zeros-are : (l : List ℕ) → zeros l ≡ true → l ≡ replicate (length l) 0
-zeros-are [] h = refl
-zeros-are (b ∷ l) h = go (eqb b 0) refl h (zeros-are l)
-  where
-    go : (t : Bool) → eqb b 0 ≡ t → (t && zeros l) ≡ true → (zeros l ≡ true → l ≡ replicate (length l) 0) → b ∷ l ≡ 0 ∷ replicate (length l) 0
-    go true e h ih = ap₂ _∷_ (eqb-true b 0 e) (ih h)
-    go false e h ih = let z : _≡_ {A = ℕ} 0 1 = cc in absurd (omega arith)
-
-pub zeros-replicate : (n : ℕ) → zeros (replicate n 0) ≡ true
-zeros-replicate zero = refl
-zeros-replicate (suc n) = zeros-replicate n
-
-and-assoc : (s t u : Bool) → (s && (t && u)) ≡ ((s && t) && u)
-and-assoc true t u = refl
-and-assoc false t u = refl
-
-pub and-true : (t : Bool) → (t && true) ≡ t
-and-true true = refl
-and-true false = refl
-
-pub zeros-append : (a b : List ℕ) → zeros (a ++ b) ≡ (zeros a && zeros b)
-zeros-append [] b = refl
-zeros-append (x ∷ a) b = ap (λ t. eqb x 0 && t) (zeros-append a b) ∙ and-assoc (eqb x 0) (zeros a) (zeros b)
-
-pub or-none : (a b : ℕ) → eqb (bitOr a b) 0 ≡ (eqb a 0 && eqb b 0)
-or-none a b = go (eqb a 0) refl (eqb b 0) refl
-  where
-    sum : bitOr a b + bitAnd a b ≡ a + b
-    sum = or-add-and a b
-
-    go : (s : Bool) → eqb a 0 ≡ s → (t : Bool) → eqb b 0 ≡ t → eqb (bitOr a b) 0 ≡ (s && t)
-    go true e true f = eq-eqb (bitOr a b) 0 (omega (arith, sum, eqb-true a 0 e, eqb-true b 0 f))
-    go true e false f = ne-eqb (bitOr a b) 0 (λ n. eqb-false b 0 f (omega (arith, sum, n, and-le-l a b)))
-    go false e t f = ne-eqb (bitOr a b) 0 (λ n. eqb-false a 0 e (omega (arith, sum, n, and-le-r a b)))
-
--- the zeros from place i on, with the bits met before them
-pub zeros-drop : (acc : ℕ) (l : List ℕ) (i : ℕ) → i < length l → (eqb acc 0 && zeros (drop i l)) ≡ (eqb (bitOr acc (getD l i 0)) 0 && zeros (drop (i + 1) l))
-zeros-drop acc l i h =
-    ap (λ (m : List ℕ). eqb acc 0 && zeros m) (drop-cons l i 0 h)
-    ∙ and-assoc (eqb acc 0) (eqb (getD l i 0) 0) (zeros (drop (suc i) l))
-    ∙ ap₂ _&&_ (sym (or-none acc (getD l i 0))) (ap (λ (n : ℕ). zeros (drop n l)) (sym (add-one i)))
-
-pub zeros-end : (acc : ℕ) (l : List ℕ) (i : ℕ) → length l ≤ i → (eqb acc 0 && zeros (drop i l)) ≡ eqb acc 0
-zeros-end acc l i h = ap (λ (m : List ℕ). eqb acc 0 && zeros m) (drop-of-length-le l h) ∙ and-true (eqb acc 0)
+use Rattle.words.specs.Words.{zeros}
+use Rattle.connection_id.specs.ConnectionId.{cidOf, cidBytes, formedCid, readCid, cidWire}
 
 pub record Cid (c : ConnectionId) : Type 0 where
   pub long : length (c .bytes) ≡ 20

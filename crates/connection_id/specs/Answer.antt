@@ -4,17 +4,13 @@ use mathlib.Core.List.{[]}
 use Rattle.refusal.specs.Outcome.{Outcome, accepted, refused}
 use Rattle.refusal.specs.Number.{numberOf}
 use Rattle.connection_id.specs.declared.ConnectionId.{ConnectionId}
-use Rattle.connection_id.specs.declared.CidAnswer.{CidAnswer}
-use Rattle.connection_id.specs.declared.CidAnswer.the-variants.{Count, Refused}
+use Rattle.refusal.specs.declared.Counted.{Counted}
+use Rattle.refusal.specs.declared.Counted.the-variants.{Count, Refused}
 use Rattle.connection_id.specs.declared.DecodedCid.{DecodedCid}
 use Rattle.connection_id.specs.ConnectionId.{cidOf}
 
-abbrev pub countOutcome : CidAnswer → Outcome ℕ
-countOutcome (Count n) = accepted n
-countOutcome (Refused r) = refused (numberOf r)
-
 -- the count joined by the ID
-abbrev pub withCid : ConnectionId → CidAnswer → Outcome (ConnectionId × ℕ)
+abbrev pub withCid : ConnectionId → Counted → Outcome (ConnectionId × ℕ)
 withCid c (Count n) = accepted (c, n)
 withCid c (Refused r) = refused (numberOf r)
 
@@ -31,5 +27,5 @@ abbrev pub settled : Outcome (ConnectionId × ℕ) → Outcome (ConnectionId × 
 settled o = (o, cidIn o)
 
 -- an answer with an ID, as one value
-abbrev pub madeOf : CidAnswer → ConnectionId → DecodedCid
+abbrev pub madeOf : Counted → ConnectionId → DecodedCid
 madeOf a c = record { answer = a; cid = c }

@@ -1,17 +1,13 @@
 -- Connection IDs of at most 20 bytes, and their form behind a length byte: the long header's (RFC 9000 section 17.2), and the
 -- preferred address's (RFC 9000 section 18.2).
 use Prim.Native.Nat.{ℕ, _+_, _-_}
-use mathlib.Core.Bool.{Bool, true, _&&_}
+use mathlib.Core.Bool.{Bool, _&&_}
 use mathlib.Core.List.{List, [], _∷_, _++_}
 use lib.ListN.{length, take, drop, replicate}
 use lib.Dec.{leb, eqb}
 use Rattle.refusal.specs.Outcome.{Outcome, accepted, refused, pick, all, store}
+use Rattle.words.specs.Words.{zeros}
 use Rattle.connection_id.specs.declared.ConnectionId.{ConnectionId}
-
--- every byte is zero
-abbrev pub zeros : List ℕ → Bool
-zeros [] = true
-zeros (b ∷ bs) = eqb b 0 && zeros bs
 
 -- the ID of at most 20 bytes v: zeros after it
 unfoldable pub cidOf : List ℕ → ConnectionId

@@ -4,9 +4,13 @@ ghost use mathlib.Core.List.{[]};
 ghost use Prim.Native.Nat.{_+_, _≤_, _<_};
 ghost use lib.ListN.{length, drop};
 ghost use lib.Seq.{paste};
-ghost use Rattle.connection_id.specs.ConnectionId.{zeros, cidOf, formedCid, makeCid, readCid, writeCid};
-ghost use Rattle.connection_id.specs.Answer.{madeOf, countOutcome, readOutcome, settled};
+ghost use Rattle.words.specs.Words.{zeros};
+ghost use Rattle.connection_id.specs.ConnectionId.{cidOf, formedCid, makeCid, readCid, writeCid};
+ghost use Rattle.connection_id.specs.Answer.{madeOf, readOutcome, settled};
+ghost use Rattle.refusal.specs.Answer.{countOutcome};
+use refusal::Counted;
 use refusal::Refusal;
+use words::zero20_from;
 
 pub struct ConnectionId {
     // how many bytes the ID has
@@ -15,15 +19,9 @@ pub struct ConnectionId {
     pub bytes: [u8; 20],
 }
 
-// What reading or writing gives: how many bytes it took or stored.
-pub enum CidAnswer {
-    Count(usize),
-    Refused(Refusal),
-}
-
 // The answer of reading, and the ID: the empty one if refused.
 pub struct DecodedCid {
-    pub answer: CidAnswer,
+    pub answer: Counted,
     pub cid: ConnectionId,
 }
 
@@ -49,7 +47,7 @@ impl ConnectionId {
             return refuse(Refusal::IllFormed);
         }
         DecodedCid {
-            answer: CidAnswer::Count(bytes.len()),
+            answer: Counted::Count(bytes.len()),
             cid: cid_of(bytes),
         }
     }
@@ -63,7 +61,7 @@ impl ConnectionId {
             return false;
         }
         let bytes = self.bytes;
-        zeros_from(&bytes, n)
+        zero20_from(&bytes, n)
     }
 
     // The ID behind the length byte at the front of `src`.
@@ -82,36 +80,36 @@ impl ConnectionId {
             return refuse(Refusal::Malformed);
         }
         DecodedCid {
-            answer: CidAnswer::Count(end),
+            answer: Counted::Count(end),
             cid: cid_of(&src[1..end]),
         }
     }
 
     // Writes the length byte and the ID to the front of `out`.
-    pub fn encode_long(self, out: &mut [u8]) -> CidAnswer
+    pub fn encode_long(self, out: &mut [u8]) -> Counted
         ensures { λ r. ⌜ (countOutcome r, now (out .exit)) ≡ writeCid self (now (out .entry)) ⌝ }
     {
         if !self.is_well_formed() {
-            return CidAnswer::Refused(Refusal::IllFormed);
+            return Counted::Refused(Refusal::IllFormed);
         }
         let n = self.len as usize;
         let end = n + 1;
         if out.len() < end {
-            return CidAnswer::Refused(Refusal::BufferTooShort);
+            return Counted::Refused(Refusal::BufferTooShort);
         }
         let bytes = self.bytes;
         out[0] = self.len;
         put(n, &bytes, out);
-        CidAnswer::Count(end)
+        Counted::Count(end)
     }
 }
 
 // A refusal, with the empty ID.
 fn refuse(refusal: Refusal) -> DecodedCid
-    ensures { λ r. ⌜ r ≡ madeOf (CidAnswer.Refused refusal) (cidOf []) ⌝ }
+    ensures { λ r. ⌜ r ≡ madeOf (Counted.Refused refusal) (cidOf []) ⌝ }
 {
     DecodedCid {
-        answer: CidAnswer::Refused(refusal),
+        answer: Counted::Refused(refusal),
         cid: ConnectionId::empty(),
     }
 }
@@ -131,20 +129,6 @@ fn cid_of(v: &[u8]) -> ConnectionId
         len: v.len() as u8,
         bytes,
     }
-}
-
-// Whether all bytes from `n` on are zero.
-fn zeros_from(bytes: &[u8; 20], n: usize) -> bool
-    requires { ⌜ (n ≤ 20) × (length (now bytes) ≡ 20) ⌝ }
-    ensures { λ r. ⌜ r ≡ zeros (drop n (now (bytes .entry))) ⌝ }
-{
-    let mut acc: u8 = 0;
-    let mut i = n;
-    while i < ConnectionId::MAX_SIZE {
-        acc = acc | bytes[i];
-        i += 1;
-    }
-    acc == 0
 }
 
 // Stores the first `n` bytes behind the first byte of `out`.

@@ -3,11 +3,13 @@ use mathlib.Core.Path.{refl}
 use Rattle.refusal.specs.Outcome.{all, front, store}
 use Rattle.varint.specs.Number.{readNumber, form, tagOf}
 use Rattle.connection_id.specs.ConnectionId.{cidOf, formedCid}
-use Rattle.parameters.specs.Catalogue.{ids, defaults, otherKinds, kinds, kindAt, idAt, placeOf, fits, illegal, parameter}
-use Rattle.parameters.specs.Values.{noValues, upd, numberIn, numberOut, optionalIn, optionalOut, flagOut, cidIn, cidOut, tokenIn, tokenOut, familyIn, familyOut, addressIn, addressOut, noReserved, noOrder, recordOf, otherValues, valuesOf}
-use Rattle.parameters.specs.Record.{formedOptional, formedOptionalCid, formedToken, formedOptionalToken, formedFamily, formedAddress, formedReserved, formedOrder, wellFormed, numberRules, presenceRules, valueRules, bare}
+use Rattle.catalogue.specs.Catalogue.{ids, defaults, otherKinds, kinds, kindAt, idAt, placeOf, fits, illegal, parameter}
+use Rattle.record.specs.Values.{noValues, upd, numberIn, numberOut, optionalIn, optionalOut, flagOut, cidIn, cidOut, tokenIn, tokenOut, familyIn, familyOut, addressIn, addressOut, noReserved, noOrder, recordOf, otherValues, valuesOf}
+use Rattle.record.specs.Record.{formedOptional, formedOptionalCid, formedToken, formedOptionalToken, formedFamily, formedAddress, formedReserved, formedOrder, wellFormed, bare}
+use Rattle.rules.specs.Rules.{numberRules, presenceRules, valueRules}
 use Rattle.reader.specs.Reading.{faultNumber, mayRepeat, readParameter, receive, step, parse, judge, read}
-use Rattle.writer.specs.Writing.{reservedBytes, parameterAt, extension, permutation, catalogueOrder, orderOf, write}
+use Rattle.writer.specs.Writing.{reservedBytes, parameterAt, extension, orderOf, write}
+use Rattle.order.specs.Order.{permutation, catalogueOrder}
 use Rattle.tidy.specs.Tidying.{tidy}
 use Rattle.examples.specs.Examples.{Each, with, examples}
 

@@ -7,14 +7,14 @@ use mathlib.Core.Bool.{Bool, true, false}
 use lib.ListN.{length, replicate}
 use Rattle.refusal.specs.Outcome.{Outcome, accepted, refused}
 use Rattle.connection_id.specs.ConnectionId.{cidOf}
-use Rattle.parameters.specs.declared.TransportParameters.{TransportParameters}
-use Rattle.parameters.specs.declared.OptionalNumber.{OptionalNumber}
-use Rattle.parameters.specs.declared.OptionalNumber.the-variants.{Absent, Present}
-use Rattle.parameters.specs.declared.WriteOrder.{WriteOrder}
-use Rattle.parameters.specs.declared.Side.{Side}
-use Rattle.parameters.specs.declared.Side.the-variants.{Client, Server}
-use Rattle.parameters.specs.Values.{noReserved, noOrder, tokenOf, toV4, toV6}
-use Rattle.parameters.specs.Record.{defaultRecord}
+use Rattle.record.specs.declared.TransportParameters.{TransportParameters}
+use Rattle.record.specs.declared.OptionalNumber.{OptionalNumber}
+use Rattle.record.specs.declared.OptionalNumber.the-variants.{Absent, Present}
+use Rattle.record.specs.declared.WriteOrder.{WriteOrder}
+use Rattle.rules.specs.declared.Side.{Side}
+use Rattle.rules.specs.declared.Side.the-variants.{Client, Server}
+use Rattle.record.specs.Values.{noReserved, noOrder, tokenOf, toV4, toV6}
+use Rattle.record.specs.Record.{defaultRecord}
 use Rattle.reader.specs.Reading.{read}
 use Rattle.writer.specs.Writing.{write}
 use Rattle.tidy.specs.Tidying.{tidy}

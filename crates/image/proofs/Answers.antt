@@ -8,8 +8,8 @@ use lib.Seq.{sets}
 use borrow.Author.Tests.{eq-eqb, ne-eqb, le-leb, lt-leb}
 use Rattle.refusal.specs.Outcome.{accepted, refused, all, store}
 use Rattle.varint.proofs.Bytes.{stored}
-use Rattle.connection_id.proofs.Laws.{and-true}
-use Rattle.parameters.specs.declared.TransportParameters.{TransportParameters}
+use Rattle.words.proofs.Laws.{and-true}
+use Rattle.record.specs.declared.TransportParameters.{TransportParameters}
 use Rattle.image.specs.declared.ImagedRecord.{ImagedRecord}
 use Rattle.image.specs.Image.{recordAt, flagsHold, zeroIfAbsent, isImage, recordFrom}
 use Rattle.image.specs.Answer.{recordOutcome, settledRecord, refusedRecord}

@@ -17,16 +17,17 @@ use Rattle.varint.specs.Number.{bound, bytesOf}
 use Rattle.varint.proofs.Bytes.{length-bytesOf, value-bytesOf}
 use Rattle.connection_id.specs.declared.ConnectionId.{ConnectionId}
 use Rattle.connection_id.specs.ConnectionId.{formedCid}
-use Rattle.parameters.specs.declared.TransportParameters.{TransportParameters}
-use Rattle.parameters.specs.declared.OptionalNumber.{OptionalNumber}
-use Rattle.parameters.specs.declared.OptionalNumber.the-variants.{Absent, Present}
-use Rattle.parameters.specs.declared.OptionalConnectionId.{OptionalConnectionId}
-use Rattle.parameters.specs.declared.OptionalResetToken.{OptionalResetToken}
-use Rattle.parameters.specs.declared.PreferredAddress.{PreferredAddress}
-use Rattle.parameters.specs.declared.ReservedTransportParameter.{ReservedTransportParameter}
-use Rattle.parameters.specs.declared.WriteOrder.{WriteOrder}
-use Rattle.parameters.specs.Values.{Family, familyOut, ofV4, ofV6}
-use Rattle.parameters.specs.Record.{every, least, wellFormed, formedOptional, formedOptionalCid, formedToken, formedOptionalToken, formedFamily, formedAddress, formedReserved, formedOrder}
+use Rattle.record.specs.declared.TransportParameters.{TransportParameters}
+use Rattle.record.specs.declared.OptionalNumber.{OptionalNumber}
+use Rattle.record.specs.declared.OptionalNumber.the-variants.{Absent, Present}
+use Rattle.record.specs.declared.OptionalConnectionId.{OptionalConnectionId}
+use Rattle.record.specs.declared.OptionalResetToken.{OptionalResetToken}
+use Rattle.record.specs.declared.PreferredAddress.{PreferredAddress}
+use Rattle.record.specs.declared.ReservedTransportParameter.{ReservedTransportParameter}
+use Rattle.record.specs.declared.WriteOrder.{WriteOrder}
+use Rattle.record.specs.Values.{Family, familyOut, ofV4, ofV6}
+use Rattle.words.specs.Words.{every}
+use Rattle.record.specs.Record.{least, wellFormed, formedOptional, formedOptionalCid, formedToken, formedOptionalToken, formedFamily, formedAddress, formedReserved, formedOrder}
 use Rattle.image.specs.Image.{part, flagByte, flagAt, numberAt, eightBytes, numbersImage, numbersAt, isPresent, optionalImage, optionalAt, cidImage, cidAt, optionalCidImage, optionalCidAt, tokenImage, tokenAt, familyImage, familyAt, addressImage, addressAt, reservedImage, reservedAt, orderImage, orderAt, joined, frontParts, idParts, restParts, parts, imageOf, recordAt, flagPlaces, flagsHold, zeroIfAbsent, isImage, recordFrom, cidFrom}
 use Rattle.image.proofs.Stores.{eight, numbers-size, optional-size, cid-size, optional-cid-size, token-size, family-size, address-size, reserved-size, order-size, Sized, image-size}
 

@@ -19,9 +19,9 @@ use lib.Dec.{leb, ltb}
 use borrow.Author.Tests.{ltb-true, le-leb, lt-leb}
 use Rattle.varint.specs.Number.{valueFrom}
 use Rattle.varint.proofs.Bytes.{value-lt}
-use Rattle.parameters.specs.Values.{Bytes}
-use Rattle.parameters.specs.Record.{every}
-use Rattle.parameters.proofs.Bytes.{bytes-drop, bytes-take}
+use Rattle.record.specs.Values.{Bytes}
+use Rattle.words.specs.Words.{every}
+use Rattle.record.proofs.Bytes.{bytes-drop, bytes-take}
 use Rattle.image.specs.Image.{part, numberAt, flagPlaces, flagsHold}
 
 -- STORES

@@ -10,15 +10,15 @@ use lib.Seq.{sets, take-suc, length-take-le}
 use Rattle.varint.specs.Number.{bytesOf}
 use Rattle.varint.proofs.Bytes.{length-bytesOf}
 use Rattle.connection_id.specs.declared.ConnectionId.{ConnectionId}
-use Rattle.parameters.specs.declared.TransportParameters.{TransportParameters}
-use Rattle.parameters.specs.declared.OptionalNumber.{OptionalNumber}
-use Rattle.parameters.specs.declared.OptionalConnectionId.{OptionalConnectionId}
-use Rattle.parameters.specs.declared.OptionalResetToken.{OptionalResetToken}
-use Rattle.parameters.specs.declared.PreferredAddress.{PreferredAddress}
-use Rattle.parameters.specs.declared.ReservedTransportParameter.{ReservedTransportParameter}
-use Rattle.parameters.specs.declared.WriteOrder.{WriteOrder}
-use Rattle.parameters.specs.Values.{Family, familyOut, ofV4, ofV6}
-use Rattle.parameters.specs.Record.{least}
+use Rattle.record.specs.declared.TransportParameters.{TransportParameters}
+use Rattle.record.specs.declared.OptionalNumber.{OptionalNumber}
+use Rattle.record.specs.declared.OptionalConnectionId.{OptionalConnectionId}
+use Rattle.record.specs.declared.OptionalResetToken.{OptionalResetToken}
+use Rattle.record.specs.declared.PreferredAddress.{PreferredAddress}
+use Rattle.record.specs.declared.ReservedTransportParameter.{ReservedTransportParameter}
+use Rattle.record.specs.declared.WriteOrder.{WriteOrder}
+use Rattle.record.specs.Values.{Family, familyOut, ofV4, ofV6}
+use Rattle.record.specs.Record.{least}
 use Rattle.image.specs.Image.{flagByte, eightBytes, numbersImage, isPresent, optionalImage, cidImage, optionalCidImage, tokenImage, familyImage, addressImage, reservedImage, orderImage, joined, frontParts, idParts, restParts, parts, imageOf}
 use Rattle.image.proofs.Places.{stored-then}
 

@@ -6,14 +6,14 @@ use Rattle.refusal.specs.Number.{numberOf}
 use Rattle.refusal.specs.declared.Refusal.the-variants.{IllFormed}
 use Rattle.connection_id.specs.declared.ConnectionId.{ConnectionId}
 use Rattle.connection_id.specs.ConnectionId.{cidOf}
-use Rattle.parameters.specs.declared.TransportParameters.{TransportParameters}
-use Rattle.parameters.specs.Record.{defaultRecord}
-use Rattle.image.specs.declared.Answer.{Answer}
-use Rattle.image.specs.declared.Answer.the-variants.{Accepted, Refused}
+use Rattle.record.specs.declared.TransportParameters.{TransportParameters}
+use Rattle.record.specs.Record.{defaultRecord}
+use Rattle.refusal.specs.declared.Answer.{Answer}
+use Rattle.refusal.specs.declared.Answer.the-variants.{Accepted, Refused}
 use Rattle.image.specs.declared.ImagedRecord.{ImagedRecord}
 use Rattle.image.specs.declared.ImagedCid.{ImagedCid}
-use Rattle.image.specs.declared.Stored.{Stored}
-use Rattle.image.specs.declared.Stored.the-variants.{Count, Refused as RefusedS}
+use Rattle.refusal.specs.declared.Counted.{Counted}
+use Rattle.refusal.specs.declared.Counted.the-variants.{Count, Refused as RefusedS}
 
 -- an answer joined by what it comes with
 abbrev pub withValue : {A : Type 0} → A → Answer → Outcome A
@@ -26,9 +26,9 @@ recordOutcome i = withValue (i .parameters) (i .answer)
 abbrev pub cidOutcome : ImagedCid → Outcome ConnectionId
 cidOutcome i = withValue (i .cid) (i .answer)
 
-abbrev pub storeOutcome : Stored → Outcome ℕ
-storeOutcome (Count n) = accepted n
-storeOutcome (RefusedS r) = refused (numberOf r)
+abbrev pub countOutcome : Stored → Outcome ℕ
+countOutcome (Count n) = accepted n
+countOutcome (RefusedS r) = refused (numberOf r)
 
 -- the value that an outcome comes with: a refusal's is the one given
 abbrev pub valueOr : {A : Type 0} → A → Outcome A → A

@@ -8,16 +8,17 @@ use lib.Dec.{leb, eqb}
 use Rattle.refusal.specs.Outcome.{Outcome, accepted, refused, pick, all}
 use Rattle.varint.specs.Number.{valueFrom, bytesOf}
 use Rattle.connection_id.specs.declared.ConnectionId.{ConnectionId}
-use Rattle.parameters.specs.declared.TransportParameters.{TransportParameters}
-use Rattle.parameters.specs.declared.OptionalNumber.{OptionalNumber}
-use Rattle.parameters.specs.declared.OptionalNumber.the-variants.{Absent, Present}
-use Rattle.parameters.specs.declared.OptionalConnectionId.{OptionalConnectionId}
-use Rattle.parameters.specs.declared.OptionalResetToken.{OptionalResetToken}
-use Rattle.parameters.specs.declared.PreferredAddress.{PreferredAddress}
-use Rattle.parameters.specs.declared.ReservedTransportParameter.{ReservedTransportParameter}
-use Rattle.parameters.specs.declared.WriteOrder.{WriteOrder}
-use Rattle.parameters.specs.Values.{Family, familyOut, tokenOf, toV4, toV6, ofV4, ofV6}
-use Rattle.parameters.specs.Record.{every, least}
+use Rattle.record.specs.declared.TransportParameters.{TransportParameters}
+use Rattle.record.specs.declared.OptionalNumber.{OptionalNumber}
+use Rattle.record.specs.declared.OptionalNumber.the-variants.{Absent, Present}
+use Rattle.record.specs.declared.OptionalConnectionId.{OptionalConnectionId}
+use Rattle.record.specs.declared.OptionalResetToken.{OptionalResetToken}
+use Rattle.record.specs.declared.PreferredAddress.{PreferredAddress}
+use Rattle.record.specs.declared.ReservedTransportParameter.{ReservedTransportParameter}
+use Rattle.record.specs.declared.WriteOrder.{WriteOrder}
+use Rattle.record.specs.Values.{Family, familyOut, tokenOf, toV4, toV6, ofV4, ofV6}
+use Rattle.words.specs.Words.{every}
+use Rattle.record.specs.Record.{least}
 
 -- n bytes of s from a place on
 abbrev pub part : ℕ → ℕ → List ℕ → List ℕ

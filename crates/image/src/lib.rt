@@ -8,20 +8,21 @@ ghost use lib.Seq.{sets};
 ghost use Rattle.refusal.specs.Outcome.{store};
 ghost use Rattle.varint.specs.Number.{bytesOf};
 ghost use Rattle.image.specs.Image.{part, flagByte, flagAt, numberAt, eightBytes, numbersImage, numbersAt, isPresent, optionalImage, optionalAt, cidImage, cidAt, optionalCidImage, optionalCidAt, tokenImage, tokenAt, familyImage, familyAt, addressImage, addressAt, reservedImage, reservedAt, orderImage, orderAt, joined, frontParts, idParts, restParts, imageOf, recordAt, flagsHold, zeroIfAbsent, recordFrom, cidFrom};
-ghost use Rattle.image.specs.Answer.{recordOutcome, cidOutcome, storeOutcome, settledRecord, settledCid, refusedRecord};
-ghost use Rattle.parameters.specs.Values.{toV4, toV6, ofV4, ofV6};
-ghost use Rattle.parameters.specs.Record.{least};
+ghost use Rattle.image.specs.Answer.{recordOutcome, cidOutcome, settledRecord, settledCid, refusedRecord};
+ghost use Rattle.refusal.specs.Answer.{countOutcome};
+ghost use Rattle.record.specs.Values.{toV4, toV6, ofV4, ofV6};
+ghost use Rattle.record.specs.Record.{least};
 use connection_id::ConnectionId;
-use parameters::OptionalConnectionId;
-use parameters::OptionalNumber;
-use parameters::OptionalResetToken;
-use parameters::PreferredAddress;
-use parameters::ReservedTransportParameter;
-use parameters::ResetToken;
-use parameters::SocketAddrV4;
-use parameters::SocketAddrV6;
-use parameters::TransportParameters;
-use parameters::WriteOrder;
+use record::OptionalConnectionId;
+use record::OptionalNumber;
+use record::OptionalResetToken;
+use record::PreferredAddress;
+use record::ReservedTransportParameter;
+use record::ResetToken;
+use record::SocketAddrV4;
+use record::SocketAddrV6;
+use record::TransportParameters;
+use record::WriteOrder;
 use refusal::Refusal;
 
 // Whether bytes are an image.
@@ -615,7 +616,7 @@ fn put_rest(
 
 // Stores the image of a record at the front of `out`.
 pub fn image_to(r: TransportParameters, out: &mut [u8]) -> Stored
-    ensures { λ a. ⌜ (storeOutcome a, now (out .exit)) ≡ store (imageOf r) (now (out .entry)) ⌝ }
+    ensures { λ a. ⌜ (countOutcome a, now (out .exit)) ≡ store (imageOf r) (now (out .entry)) ⌝ }
 {
     if out.len() < RECORD_SIZE {
         return Stored::Refused(Refusal::BufferTooShort);
@@ -640,7 +641,7 @@ pub fn image_to(r: TransportParameters, out: &mut [u8]) -> Stored
 
 // Stores the image of a connection ID at the front of `out`.
 pub fn cid_to(c: ConnectionId, out: &mut [u8]) -> Stored
-    ensures { λ a. ⌜ (storeOutcome a, now (out .exit)) ≡ store (cidImage c) (now (out .entry)) ⌝ }
+    ensures { λ a. ⌜ (countOutcome a, now (out .exit)) ≡ store (cidImage c) (now (out .entry)) ⌝ }
 {
     if out.len() < CID_SIZE {
         return Stored::Refused(Refusal::BufferTooShort);

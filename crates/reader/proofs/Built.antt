@@ -11,22 +11,25 @@ use borrow.Author.Tests.{leb-true, eqb-true}
 use Rattle.refusal.specs.Outcome.{Result, accepted, refused, Outcome, pick, andThen, all}
 use Rattle.refusal.specs.Number.{numberOf}
 use Rattle.refusal.proofs.Laws.{all-at}
-use Rattle.connection_id.specs.ConnectionId.{zeros, cidOf, makeCid}
+use Rattle.words.specs.Words.{zeros}
+use Rattle.connection_id.specs.ConnectionId.{cidOf, makeCid}
 use Rattle.connection_id.specs.Answer.{readOutcome, settled}
 use Rattle.connection_id.specs.declared.ConnectionId.{ConnectionId}
 use Rattle.connection_id.specs.declared.DecodedCid.{DecodedCid}
 use Rattle.connection_id.proofs.Answers.{make-whole}
 use Rattle.marks.specs.Mark.{marked}
-use Rattle.parameters.specs.declared.OptionalNumber.the-variants.{Absent, Present}
-use Rattle.parameters.specs.declared.TransportParameters.{TransportParameters}
-use Rattle.parameters.specs.declared.SocketAddrV4.{SocketAddrV4}
-use Rattle.parameters.specs.declared.SocketAddrV6.{SocketAddrV6}
-use Rattle.parameters.specs.declared.Side.{Side}
-use Rattle.parameters.specs.Catalogue.{Kind, number, cid, address, kinds, kindAt, defaults, fits, idLength}
-use Rattle.parameters.specs.Values.{Values, Bytes, noValues, isSome, numberIn, optionalIn, cidIn, tokenIn, familyIn, toV4, toV6, addressIn, numbersIn, recordOf}
-use Rattle.parameters.specs.Record.{isServer, least, numberRules, presenceRules, valueRules}
-use Rattle.parameters.proofs.KindLaws.{Fits, IfSome}
-use Rattle.parameters.proofs.Places.{number-kind, number-in, numbers-length}
+use Rattle.record.specs.declared.OptionalNumber.the-variants.{Absent, Present}
+use Rattle.record.specs.declared.TransportParameters.{TransportParameters}
+use Rattle.record.specs.declared.SocketAddrV4.{SocketAddrV4}
+use Rattle.record.specs.declared.SocketAddrV6.{SocketAddrV6}
+use Rattle.rules.specs.declared.Side.{Side}
+use Rattle.catalogue.specs.Catalogue.{Kind, number, cid, address, kinds, kindAt, defaults, fits, idLength}
+use Rattle.record.specs.Values.{Values, Bytes, noValues, isSome, numberIn, optionalIn, cidIn, tokenIn, familyIn, toV4, toV6, addressIn, numbersIn, recordOf}
+use Rattle.rules.specs.Rules.{isServer, numberRules, presenceRules, valueRules}
+use Rattle.record.specs.Record.{least}
+use Rattle.record.proofs.KindLaws.{Fits, IfSome}
+use Rattle.catalogue.proofs.Places.{number-kind}
+use Rattle.record.proofs.Records.{number-in, numbers-length}
 use Rattle.reader.specs.declared.Fault.{Fault}
 use Rattle.reader.specs.declared.Fault.the-variants.{Cut, SecondCopy, Misfit, Illegal}
 use Rattle.reader.specs.declared.Reading.{Reading}

@@ -14,9 +14,9 @@ use Rattle.refusal.specs.Outcome.{Result, accepted, refused, pick, all}
 use Rattle.varint.specs.Number.{readNumber}
 use Rattle.varint.proofs.Bytes.{read-whole}
 use Rattle.varint.proofs.Laws.{read-within}
-use Rattle.connection_id.specs.ConnectionId.{zeros}
-use Rattle.parameters.specs.Catalogue.{Kind, number, cid, token, address, otherKinds, kinds, kindAt, fits, illegal, idLength}
-use Rattle.parameters.specs.Values.{value}
+use Rattle.words.specs.Words.{zeros}
+use Rattle.catalogue.specs.Catalogue.{Kind, number, cid, token, address, otherKinds, kinds, kindAt, fits, illegal, idLength}
+use Rattle.record.specs.Values.{value}
 use Rattle.reader.specs.declared.Fault.{Fault}
 use Rattle.reader.specs.declared.Fault.the-variants.{Cut, SecondCopy, Misfit, Illegal}
 use Rattle.reader.specs.Reading.{mayRepeat, readParameter}

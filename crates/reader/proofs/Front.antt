@@ -15,9 +15,9 @@ use Rattle.refusal.specs.Outcome.{Outcome, accepted, refused}
 use Rattle.refusal.proofs.Laws.{inverted, picked}
 use Rattle.varint.specs.Number.{numberBytes, readNumber}
 use Rattle.varint.proofs.Laws.{read-number-bytes, read-within, read-bounds}
-use Rattle.parameters.specs.Catalogue.{parameter}
-use Rattle.parameters.specs.Values.{Bytes}
-use Rattle.parameters.proofs.Bytes.{bytes-drop, bytes-take}
+use Rattle.catalogue.specs.Catalogue.{parameter}
+use Rattle.record.specs.Values.{Bytes}
+use Rattle.record.proofs.Bytes.{bytes-drop, bytes-take}
 use Rattle.reader.specs.declared.Fault.the-variants.{Cut}
 use Rattle.reader.specs.Reading.{orCut, readParameter}
 

@@ -11,11 +11,12 @@ use lib.Dec.{ltb, eqb}
 use borrow.Author.Tests.{ltb-true, eqb-true}
 use Rattle.refusal.specs.Outcome.{Result, accepted, refused, pick}
 use Rattle.refusal.proofs.Laws.{inverted}
-use Rattle.parameters.specs.Catalogue.{places, placeOf, idAt, kindAt, fits, illegal, parameter, parameterIf}
-use Rattle.parameters.specs.Values.{Bytes, Values, noValues, isSome, upd}
-use Rattle.parameters.proofs.Sums.{sum, but, sum-eq, sum-but}
-use Rattle.parameters.proofs.KindLaws.{Fits, IfSome}
-use Rattle.parameters.proofs.Places.{id-of-place, Good, sizeAt}
+use Rattle.catalogue.specs.Catalogue.{places, placeOf, idAt, kindAt, fits, illegal, parameter, parameterIf}
+use Rattle.record.specs.Values.{Bytes, Values, noValues, isSome, upd}
+use Rattle.catalogue.proofs.Sums.{sum, but, sum-eq, sum-but}
+use Rattle.record.proofs.KindLaws.{Fits, IfSome}
+use Rattle.catalogue.proofs.Places.{id-of-place}
+use Rattle.record.proofs.Records.{Good, sizeAt}
 use Rattle.reader.specs.declared.Fault.{Fault}
 use Rattle.reader.specs.declared.Fault.the-variants.{SecondCopy, Misfit, Illegal}
 use Rattle.reader.specs.Reading.{mayRepeat, readParameter, receive, step, parseIn, parse}

@@ -12,11 +12,12 @@ use mathlib.Core.Bool.{true}
 use native.Mathlib.Omega.{arith}
 use Rattle.refusal.specs.Outcome.{Result, accepted, refused, andThen, all}
 use Rattle.refusal.proofs.Laws.{inverted, picked}
-use Rattle.parameters.specs.declared.TransportParameters.{TransportParameters}
-use Rattle.parameters.specs.declared.Side.{Side}
-use Rattle.parameters.specs.Values.{Bytes, Values, noValues, recordOf}
-use Rattle.parameters.specs.Record.{valueRules, wellFormed, familyRules, legal, bare}
-use Rattle.parameters.proofs.Places.{formed, families}
+use Rattle.record.specs.declared.TransportParameters.{TransportParameters}
+use Rattle.rules.specs.declared.Side.{Side}
+use Rattle.record.specs.Values.{Bytes, Values, noValues, recordOf}
+use Rattle.rules.specs.Rules.{valueRules, legal}
+use Rattle.record.specs.Record.{wellFormed, familyRules, bare}
+use Rattle.record.proofs.Records.{formed, families}
 use Rattle.reader.specs.declared.Fault.{Fault}
 use Rattle.reader.specs.declared.Fault.the-variants.{Illegal}
 use Rattle.reader.specs.Reading.{numbered, step, parse, judge, read}

@@ -15,8 +15,8 @@ use lib.ListN.{length}
 use lib.Dec.{eqb}
 use borrow.Author.Tests.{le-ltb, eqb-true, eqb-false}
 use Rattle.refusal.specs.Outcome.{Result, accepted, refused, pick, andThen}
-use Rattle.parameters.specs.Catalogue.{places, placeOf}
-use Rattle.parameters.specs.Values.{Values, upd}
+use Rattle.catalogue.specs.Catalogue.{places, placeOf}
+use Rattle.record.specs.Values.{Values, upd}
 use Rattle.reader.specs.declared.Fault.{Fault}
 use Rattle.reader.specs.Reading.{readParameter, step, parseIn, parse}
 use Rattle.reader.specs.Whole.{Inserted, done, same, unknown, concat}

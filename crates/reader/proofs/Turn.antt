@@ -17,8 +17,8 @@ use Rattle.refusal.specs.Outcome.{Result, accepted, refused, pick, andThen}
 use Rattle.varint.specs.Number.{readNumber}
 use Rattle.marks.specs.Mark.{marked, mark}
 use Rattle.marks.proofs.Laws.{marked-same, marked-other, unmarked}
-use Rattle.parameters.specs.Catalogue.{number, places, placeOf, kindAt, defaults, fits, illegal}
-use Rattle.parameters.specs.Values.{Values, noValues, isSome, upd, value, numberIn}
+use Rattle.catalogue.specs.Catalogue.{number, places, placeOf, kindAt, defaults, fits, illegal}
+use Rattle.record.specs.Values.{Values, noValues, isSome, upd, value, numberIn}
 use Rattle.reader.specs.declared.Fault.{Fault}
 use Rattle.reader.specs.declared.Fault.the-variants.{Cut, SecondCopy, Misfit, Illegal}
 use Rattle.reader.specs.Reading.{mayRepeat, readParameter, receive, step, parseIn, parse}

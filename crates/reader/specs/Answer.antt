@@ -8,13 +8,13 @@ use Rattle.refusal.specs.Outcome.{Result, accepted, refused, Outcome, pick}
 use Rattle.refusal.specs.Number.{numberOf}
 use Rattle.refusal.specs.declared.Refusal.{Refusal}
 use Rattle.refusal.specs.declared.Refusal.the-variants.{Malformed, IllegalValue}
-use Rattle.parameters.specs.declared.TransportParameters.{TransportParameters}
-use Rattle.parameters.specs.Values.{Values}
-use Rattle.parameters.specs.Record.{defaultRecord}
+use Rattle.record.specs.declared.TransportParameters.{TransportParameters}
+use Rattle.record.specs.Values.{Values}
+use Rattle.record.specs.Record.{defaultRecord}
 use Rattle.reader.specs.declared.Fault.{Fault}
 use Rattle.reader.specs.declared.Fault.the-variants.{Cut, SecondCopy, Misfit, Illegal}
-use Rattle.reader.specs.declared.Answer.{Answer}
-use Rattle.reader.specs.declared.Answer.the-variants.{Accepted, Refused}
+use Rattle.refusal.specs.declared.Answer.{Answer}
+use Rattle.refusal.specs.declared.Answer.the-variants.{Accepted, Refused}
 use Rattle.reader.specs.declared.Reading.{Reading}
 use Rattle.reader.specs.declared.Parameter.{Parameter}
 use Rattle.reader.specs.declared.Parameter.the-variants.{Whole, Broken}

@@ -9,10 +9,10 @@ use lib.ListN.{length, getD, take, drop, replicate}
 use Rattle.refusal.specs.Outcome.{Result, accepted, refused, pick, andThen}
 use Rattle.varint.specs.Number.{readNumber}
 use Rattle.marks.specs.Mark.{marked}
-use Rattle.parameters.specs.Catalogue.{Kind, number, flag, cid, token, address, reserved, kindAt, defaults, fits, illegal}
-use Rattle.parameters.specs.declared.Side.{Side}
-use Rattle.parameters.specs.Values.{Values, noValues, value, numberIn, recordOf}
-use Rattle.parameters.specs.Record.{valueRules}
+use Rattle.catalogue.specs.Catalogue.{Kind, number, flag, cid, token, address, reserved, kindAt, defaults, fits, illegal}
+use Rattle.rules.specs.declared.Side.{Side}
+use Rattle.record.specs.Values.{Values, noValues, value, numberIn, recordOf}
+use Rattle.rules.specs.Rules.{valueRules}
 use Rattle.reader.specs.declared.Fault.{Fault}
 use Rattle.reader.specs.declared.Fault.the-variants.{SecondCopy, Misfit, Illegal}
 use Rattle.reader.specs.Reading.{mayRepeat, parse}

@@ -8,11 +8,11 @@ use lib.ListN.{length, take, drop}
 use lib.Dec.{ltb, leb, eqb}
 use Rattle.refusal.specs.Outcome.{Result, accepted, refused, Outcome, pick, andThen}
 use Rattle.varint.specs.Number.{readNumber}
-use Rattle.parameters.specs.declared.TransportParameters.{TransportParameters}
-use Rattle.parameters.specs.declared.Side.{Side}
-use Rattle.parameters.specs.Catalogue.{places, kindAt, placeOf, fits, illegal}
-use Rattle.parameters.specs.Values.{Values, noValues, isSome, upd, recordOf}
-use Rattle.parameters.specs.Record.{valueRules}
+use Rattle.record.specs.declared.TransportParameters.{TransportParameters}
+use Rattle.rules.specs.declared.Side.{Side}
+use Rattle.catalogue.specs.Catalogue.{places, kindAt, placeOf, fits, illegal}
+use Rattle.record.specs.Values.{Values, noValues, isSome, upd, recordOf}
+use Rattle.rules.specs.Rules.{valueRules}
 use Rattle.reader.specs.declared.Fault.{Fault}
 use Rattle.reader.specs.declared.Fault.the-variants.{Cut, SecondCopy, Misfit, Illegal}
 

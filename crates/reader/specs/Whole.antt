@@ -3,7 +3,7 @@ use Prim.Native.Nat.{ℕ, _≤_}
 use mathlib.Core.Path.{_≡_}
 use mathlib.Core.List.{List, [], _∷_, _++_}
 use Rattle.refusal.specs.Outcome.{accepted}
-use Rattle.parameters.specs.Catalogue.{places, placeOf}
+use Rattle.catalogue.specs.Catalogue.{places, placeOf}
 use Rattle.reader.specs.Reading.{readParameter}
 
 -- bytes that are one parameter, with nothing behind it

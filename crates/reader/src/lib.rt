@@ -6,26 +6,26 @@ ghost use mathlib.Core.Option.{none, some};
 ghost use Prim.Native.Nat.{_+_, _-_, _*_, _<_, _≤_};
 ghost use lib.ListN.{length, take, drop, replicate};
 ghost use Rattle.refusal.specs.Outcome.{pick};
-ghost use Rattle.connection_id.specs.ConnectionId.{zeros};
-ghost use Rattle.parameters.specs.Catalogue.{number, cid, token, address, fits};
-ghost use Rattle.parameters.specs.Values.{noValues, cidIn, tokenIn, addressIn, familyIn, toV4, toV6, recordOf};
-ghost use Rattle.parameters.specs.Record.{valueRules};
+ghost use Rattle.words.specs.Words.{zeros};
+ghost use Rattle.catalogue.specs.Catalogue.{number, cid, token, address, fits};
+ghost use Rattle.record.specs.Values.{noValues, cidIn, tokenIn, addressIn, familyIn, toV4, toV6, recordOf};
+ghost use Rattle.rules.specs.Rules.{valueRules};
 ghost use Rattle.reader.specs.Reading.{mayRepeat, readParameter, parse, read};
 ghost use Rattle.reader.specs.Index.{admitted, spans, checkKind, checkValue, receiveValue, initialNumbers, Spanned, Received};
 ghost use Rattle.reader.specs.Answer.{parameterOutcome, Within, valueOutcome, scanOutcome, ScanIndexed, ScanReceived, IndexSettled, scannedIf, readOutcome, settled, refusedWith, refusedReading, judged};
 use connection_id::ConnectionId;
-use parameters::Microseconds;
-use parameters::OptionalConnectionId;
-use parameters::OptionalNumber;
-use parameters::OptionalResetToken;
-use parameters::PreferredAddress;
-use parameters::ReservedTransportParameter;
-use parameters::ResetToken;
-use parameters::Side;
-use parameters::SocketAddrV4;
-use parameters::SocketAddrV6;
-use parameters::TransportParameters;
-use parameters::WriteOrder;
+use rules::Microseconds;
+use record::OptionalConnectionId;
+use record::OptionalNumber;
+use record::OptionalResetToken;
+use record::PreferredAddress;
+use record::ReservedTransportParameter;
+use record::ResetToken;
+use rules::Side;
+use record::SocketAddrV4;
+use record::SocketAddrV6;
+use record::TransportParameters;
+use record::WriteOrder;
 use refusal::Refusal;
 use varint::Decoded;
 use varint::VarInt;
@@ -265,8 +265,8 @@ fn scan(
         let Parameter::Whole(id, start, end) = parameter_at(src, at) else {
             return Scanned::Stopped(Fault::Cut);
         };
-        let place = parameters::place_of(id);
-        if place < TransportParameters::PLACES {
+        let place = catalogue::place_of(id);
+        if place < PLACES {
             let met = marks::is_marked(marks, place);
             match receive(met, place, &src[start..end]) {
                 Value::Fits(x) => {
@@ -531,14 +531,14 @@ fn is_allowed(
     ensures { λ r. ⌜ r ≡ valueRules side (recordOf (spans (now (src .entry)) marks (now (from .entry)) (now (to .entry)))) ⌝ }
 {
     let numbers = numbers_of(n);
-    if !parameters::numbers_allowed(&numbers, Microseconds(n[20])) {
+    if !rules::numbers_allowed(&numbers, Microseconds(n[20])) {
         return false;
     }
     let original = marks::is_marked(marks, 16);
     let address = marks::is_marked(marks, 15);
     let retry = marks::is_marked(marks, 18);
     let token = marks::is_marked(marks, 12);
-    parameters::presence_allowed(
+    rules::presence_allowed(
         side,
         original,
         address,

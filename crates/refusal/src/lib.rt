@@ -1,4 +1,4 @@
-// The refusals of every operation, under the names of the Rust source where it has one, and their numbers.
+// The refusals of every operation, under the names of the Rust source where it has one, and their numbers; and the answers that carry them.
 ghost use mathlib.Core.Path.{_≡_};
 ghost use Rattle.refusal.specs.Number.{numberOf};
 
@@ -21,6 +21,18 @@ pub enum Refusal {
     LimitReduced,
     // 9: a drawn value out of range
     InvalidDraw,
+}
+
+// What an operation that takes or stores bytes gives: how many.
+pub enum Counted {
+    Count(usize),
+    Refused(Refusal),
+}
+
+// What any other operation gives; a value stands beside it.
+pub enum Answer {
+    Accepted,
+    Refused(Refusal),
 }
 
 impl Refusal {

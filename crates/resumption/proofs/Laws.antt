@@ -5,8 +5,8 @@ use mathlib.Core.Bool.{Bool, true, false}
 use native.Mathlib.Omega.{arith}
 use lib.Dec.{leb}
 use borrow.Author.Tests.{le-leb, lt-leb, leb-true, leb-false}
-use Rattle.parameters.specs.declared.OptionalNumber.{OptionalNumber}
-use Rattle.parameters.specs.declared.OptionalNumber.the-variants.{Absent, Present}
+use Rattle.record.specs.declared.OptionalNumber.{OptionalNumber}
+use Rattle.record.specs.declared.OptionalNumber.the-variants.{Absent, Present}
 use Rattle.resumption.specs.Resumption.{sizeRank}
 
 -- THE DATAGRAM SIZE, as the code tests it

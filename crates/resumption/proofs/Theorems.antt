@@ -12,8 +12,9 @@ use lib.Dec.{leb}
 use borrow.Author.Tests.{le-leb, leb-true}
 use Rattle.refusal.specs.Outcome.{Outcome, accepted, refused, pick, all}
 use Rattle.refusal.proofs.Laws.{all-at}
-use Rattle.parameters.specs.declared.TransportParameters.{TransportParameters}
-use Rattle.parameters.specs.Record.{every, wellFormed}
+use Rattle.record.specs.declared.TransportParameters.{TransportParameters}
+use Rattle.words.specs.Words.{every}
+use Rattle.record.specs.Record.{wellFormed}
 use Rattle.resumption.specs.Resumption.{remembered, limitsKept, sizeRank, nothingReduced, resume}
 
 -- orders of numbers, as tests

@@ -6,10 +6,11 @@ use mathlib.Core.Bool.{Bool, _&&_, _||_, not}
 use lib.ListN.{getD}
 use lib.Dec.{leb}
 use Rattle.refusal.specs.Outcome.{Outcome, accepted, refused, pick, all}
-use Rattle.parameters.specs.declared.TransportParameters.{TransportParameters}
-use Rattle.parameters.specs.declared.OptionalNumber.{OptionalNumber}
-use Rattle.parameters.specs.declared.OptionalNumber.the-variants.{Absent, Present}
-use Rattle.parameters.specs.Record.{every, wellFormed}
+use Rattle.record.specs.declared.TransportParameters.{TransportParameters}
+use Rattle.record.specs.declared.OptionalNumber.{OptionalNumber}
+use Rattle.record.specs.declared.OptionalNumber.the-variants.{Absent, Present}
+use Rattle.words.specs.Words.{every}
+use Rattle.record.specs.Record.{wellFormed}
 
 -- the places of the limits that are remembered for 0-RTT (RFC 9000 section 7.4.1): active_connection_id_limit, initial_max_data,
 -- initial_max_stream_data_bidi_local, _bidi_remote and _uni, initial_max_streams_bidi and _uni

@@ -6,9 +6,9 @@ ghost use Prim.Native.Nat.{min};
 ghost use lib.ListN.{length};
 ghost use lib.Dec.{leb};
 ghost use Rattle.resumption.specs.Resumption.{limitsKept, sizeRank, nothingReduced, resume, issueLimit};
-ghost use Rattle.resumption.specs.Answer.{resumeOutcome};
-use parameters::OptionalNumber;
-use parameters::TransportParameters;
+ghost use Rattle.refusal.specs.Answer.{verdictOutcome};
+use record::OptionalNumber;
+use record::TransportParameters;
 use refusal::Refusal;
 
 // What resuming gives.
@@ -109,7 +109,7 @@ fn nothing_reduced(new: TransportParameters, cached: TransportParameters) -> boo
 
 // Whether 0-RTT may go on with new parameters, given those remembered.
 pub fn validate_resumption_from(new: TransportParameters, cached: TransportParameters) -> Resumption
-    ensures { λ r. ⌜ resumeOutcome r ≡ resume new cached ⌝ }
+    ensures { λ r. ⌜ verdictOutcome r ≡ resume new cached ⌝ }
 {
     if !and(new.is_well_formed(), cached.is_well_formed()) {
         return Resumption::Refused(Refusal::IllFormed);

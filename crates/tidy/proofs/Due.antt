@@ -12,9 +12,9 @@ use borrow.Author.Tests.{eqb-true, leb-true, ltb-true}
 use Rattle.varint.specs.Number.{form, tagOf, numberBytes}
 use Rattle.refusal.specs.Outcome.{pick}
 use Rattle.refusal.proofs.Laws.{all-at}
-use Rattle.parameters.specs.Catalogue.{Kind, number, flag, cid, token, address, reserved, kindAt, fits, idLength, defaults, ids, idAt, parameter, parameterIf}
-use Rattle.parameters.specs.Values.{numberOut}
-use Rattle.parameters.proofs.Places.{below-at}
+use Rattle.catalogue.specs.Catalogue.{Kind, number, flag, cid, token, address, reserved, kindAt, fits, idLength, defaults, ids, idAt, parameter, parameterIf}
+use Rattle.record.specs.Values.{numberOut}
+use Rattle.catalogue.proofs.Places.{below-at}
 use Rattle.writer.specs.Stored.{Wrote, joined, each, numberAt}
 use Rattle.writer.proofs.Stored.{lent, back, wrote-few, wrote-then}
 use Rattle.writer.proofs.Laid.{joined-append}

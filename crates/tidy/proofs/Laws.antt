@@ -7,14 +7,16 @@ use mathlib.Core.List.{List}
 use mathlib.Core.Bool.{true}
 use Rattle.refusal.specs.Outcome.{accepted, store}
 use Rattle.refusal.proofs.Laws.{all-at}
-use Rattle.parameters.specs.declared.TransportParameters.{TransportParameters}
-use Rattle.parameters.specs.declared.Side.{Side}
-use Rattle.parameters.specs.Values.{Bytes, noOrder}
-use Rattle.parameters.specs.Record.{wellFormed, legal, bare}
+use Rattle.record.specs.declared.TransportParameters.{TransportParameters}
+use Rattle.rules.specs.declared.Side.{Side}
+use Rattle.record.specs.Values.{Bytes, noOrder}
+use Rattle.record.specs.Record.{wellFormed, bare}
+use Rattle.rules.specs.Rules.{legal}
 use Rattle.reader.specs.Reading.{read}
 use Rattle.reader.proofs.Laws.{accepted-legal}
-use Rattle.writer.specs.Writing.{extension, catalogueOrder, orderOf, write}
-use Rattle.writer.proofs.Orders.{in-catalogue}
+use Rattle.writer.specs.Writing.{extension, orderOf, write}
+use Rattle.order.specs.Order.{catalogueOrder}
+use Rattle.order.proofs.Orders.{in-catalogue}
 use Rattle.tidy.specs.Tidying.{tidyFrom, tidy}
 
 written-bare : (r : TransportParameters) (out : List ℕ) → wellFormed (bare r) ≡ true → write (bare r) out ≡ store (extension (bare r) catalogueOrder) out

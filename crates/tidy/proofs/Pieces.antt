@@ -15,13 +15,14 @@ use Rattle.refusal.specs.declared.Refusal.{Refusal}
 use Rattle.refusal.proofs.Laws.{inverted, picked}
 use Rattle.marks.specs.Mark.{marked}
 use Rattle.connection_id.proofs.Laws.{cid-same}
-use Rattle.parameters.specs.declared.Side.{Side}
-use Rattle.parameters.specs.Catalogue.{number, flag, kinds, kindAt, defaults, fits, ids, idAt, parameterIf}
-use Rattle.parameters.specs.Values.{Values, Bytes, noValues, isSome, numberIn, optionalIn, optionalOut, flagOut, cidIn, cidOut, tokenIn, tokenOut, recordOf, otherValues, valuesOf, noReserved}
-use Rattle.parameters.specs.Record.{valueRules}
-use Rattle.parameters.proofs.KindLaws.{Fits, IfSome, number-formed}
-use Rattle.parameters.proofs.Address.{address-kept}
-use Rattle.parameters.proofs.Places.{Good, number-kind, number-in, default-lt}
+use Rattle.rules.specs.declared.Side.{Side}
+use Rattle.catalogue.specs.Catalogue.{number, flag, kinds, kindAt, defaults, fits, ids, idAt, parameterIf}
+use Rattle.record.specs.Values.{Values, Bytes, noValues, isSome, numberIn, optionalIn, optionalOut, flagOut, cidIn, cidOut, tokenIn, tokenOut, recordOf, otherValues, valuesOf, noReserved}
+use Rattle.rules.specs.Rules.{valueRules}
+use Rattle.record.proofs.KindLaws.{Fits, IfSome, number-formed}
+use Rattle.record.proofs.Address.{address-kept}
+use Rattle.record.proofs.Records.{Good, number-in}
+use Rattle.catalogue.proofs.Places.{number-kind, default-lt}
 use Rattle.reader.specs.declared.Fault.{Fault}
 use Rattle.reader.specs.declared.Fault.the-variants.{Illegal}
 use Rattle.reader.specs.Reading.{parse, read}
@@ -30,7 +31,8 @@ use Rattle.reader.specs.Answer.{refusedWith, refusedReading}
 use Rattle.reader.proofs.Grow.{grown}
 use Rattle.reader.proofs.Turn.{spans-met}
 use Rattle.reader.proofs.Built.{read-stopped, read-admitted}
-use Rattle.writer.specs.Writing.{reservedBytes, parameterAt, extension, catalogueOrder}
+use Rattle.writer.specs.Writing.{reservedBytes, parameterAt, extension}
+use Rattle.order.specs.Order.{catalogueOrder}
 use Rattle.writer.specs.Stored.{joined, each, numberAt}
 use Rattle.tidy.specs.Tidying.{tidyFrom, tidy}
 use Rattle.tidy.specs.Pieces.{numberIf, LowNumbers, Kept, from12, from15, from18, pieces}

@@ -2,9 +2,9 @@
 use Prim.Native.Nat.{ℕ}
 use Rattle.refusal.specs.Outcome.{Outcome, accepted, refused}
 use Rattle.refusal.specs.Number.{numberOf}
-use Rattle.tidy.specs.declared.Tidied.{Tidied}
-use Rattle.tidy.specs.declared.Tidied.the-variants.{Count, Refused}
+use Rattle.refusal.specs.declared.Counted.{Counted}
+use Rattle.refusal.specs.declared.Counted.the-variants.{Count, Refused}
 
-abbrev pub tidyOutcome : Tidied → Outcome ℕ
-tidyOutcome (Count n) = accepted n
-tidyOutcome (Refused r) = refused (numberOf r)
+abbrev pub countOutcome : Tidied → Outcome ℕ
+countOutcome (Count n) = accepted n
+countOutcome (Refused r) = refused (numberOf r)

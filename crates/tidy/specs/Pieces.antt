@@ -8,8 +8,8 @@ use lib.ListN.{getD}
 use Rattle.refusal.specs.Outcome.{pick}
 use Rattle.varint.specs.Number.{bound, numberBytes}
 use Rattle.marks.specs.Mark.{marked}
-use Rattle.parameters.specs.Catalogue.{Kind, number, flag, cid, token, address, reserved, kindAt, parameterIf}
-use Rattle.parameters.specs.Values.{flagOut}
+use Rattle.catalogue.specs.Catalogue.{Kind, number, flag, cid, token, address, reserved, kindAt, parameterIf}
+use Rattle.record.specs.Values.{flagOut}
 use Rattle.reader.specs.Index.{spans, Spanned, Received}
 use Rattle.writer.specs.Stored.{joined, each, numberAt}
 

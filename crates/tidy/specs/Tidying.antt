@@ -3,9 +3,9 @@
 use Prim.Native.Nat.{ℕ}
 use mathlib.Core.List.{List}
 use Rattle.refusal.specs.Outcome.{Outcome, accepted, refused}
-use Rattle.parameters.specs.declared.TransportParameters.{TransportParameters}
-use Rattle.parameters.specs.declared.Side.{Side}
-use Rattle.parameters.specs.Record.{bare}
+use Rattle.record.specs.declared.TransportParameters.{TransportParameters}
+use Rattle.rules.specs.declared.Side.{Side}
+use Rattle.record.specs.Record.{bare}
 use Rattle.reader.specs.Reading.{read}
 use Rattle.writer.specs.Writing.{write}
 

@@ -6,17 +6,17 @@ ghost use Prim.Native.Nat.{_+_, _≤_, _<_};
 ghost use lib.ListN.{length};
 ghost use Rattle.refusal.specs.Outcome.{front, store};
 ghost use Rattle.varint.specs.Number.{bound};
-ghost use Rattle.parameters.specs.Catalogue.{parameterIf};
-ghost use Rattle.parameters.specs.Values.{flagOut};
+ghost use Rattle.catalogue.specs.Catalogue.{parameterIf};
+ghost use Rattle.record.specs.Values.{flagOut};
 ghost use Rattle.reader.specs.Index.{spans};
 ghost use Rattle.writer.specs.Stored.{Wrote, joined, each, numberAt};
 ghost use Rattle.tidy.specs.Tidying.{tidy};
-ghost use Rattle.tidy.specs.Answer.{tidyOutcome};
+ghost use Rattle.refusal.specs.Answer.{countOutcome};
 ghost use Rattle.tidy.specs.Pieces.{ifDue, numberIf, longestAt, Bytewise, LowNumbers, Kept, from12, from15, from18, pieces};
-use parameters::Side;
+use rules::Side;
 use reader::Scanned;
 use refusal::Refusal;
-use varint::Encoded;
+use refusal::Counted;
 use varint::VarInt;
 
 // What tidying gives: how many bytes it stored.
@@ -48,7 +48,7 @@ fn put_number(due: bool, id: u8, x: u64, out: &mut [u8]) -> usize
     if !due {
         return 0;
     }
-    let Encoded::Count(n) = VarInt(x).encode(&mut out[2..]) else {
+    let Counted::Count(n) = VarInt(x).encode(&mut out[2..]) else {
         return 0;
     };
     out[0] = id;
@@ -232,29 +232,29 @@ fn put(
     out: &mut [u8],
 ) -> Tidied
     requires { ⌜ Kept (now src) marks (now n) (now from) (now to) ⌝ }
-    ensures { λ r. ⌜ (tidyOutcome r, now (out .exit)) ≡ store (pieces (now (src .entry)) marks (now (n .entry)) (now (from .entry)) (now (to .entry))) (now (out .entry)) ⌝ }
+    ensures { λ r. ⌜ (countOutcome r, now (out .exit)) ≡ store (pieces (now (src .entry)) marks (now (n .entry)) (now (from .entry)) (now (to .entry))) (now (out .entry)) ⌝ }
 {
     if MAX_SIZE <= out.len() {
-        return Tidied::Count(put_all(src, marks, n, from, to, out));
+        return Counted::Count(put_all(src, marks, n, from, to, out));
     }
     let mut parts = [0u8; 314];
     let count = put_all(src, marks, n, from, to, &mut parts);
     if out.len() < count {
-        return Tidied::Refused(Refusal::BufferTooShort);
+        return Counted::Refused(Refusal::BufferTooShort);
     }
     put_bytes(&parts[..count], out);
-    Tidied::Count(count)
+    Counted::Count(count)
 }
 
 // Tidies `src` to the front of `out`.
 pub fn tidy(side: Side, src: &[u8], out: &mut [u8]) -> Tidied
-    ensures { λ r. ⌜ (tidyOutcome r, now (out .exit)) ≡ tidy side (now (src .entry)) (now (out .entry)) ⌝ }
+    ensures { λ r. ⌜ (countOutcome r, now (out .exit)) ≡ tidy side (now (src .entry)) (now (out .entry)) ⌝ }
 {
     let mut numbers = [0u64; 21];
     let mut from = [0usize; 21];
     let mut to = [0usize; 21];
     match reader::index(side, src, &mut numbers, &mut from, &mut to) {
-        Scanned::Stopped(fault) => Tidied::Refused(fault.refusal()),
+        Scanned::Stopped(fault) => Counted::Refused(fault.refusal()),
         Scanned::Marks(met) => put(src, met, &numbers, &from, &to, out),
     }
 }

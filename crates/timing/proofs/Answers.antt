@@ -8,15 +8,14 @@ use lib.ListN.{length, getD, List·getD-eq-default}
 use Rattle.refusal.specs.Outcome.{Outcome, accepted, refused}
 use Rattle.refusal.specs.Number.{numberOf}
 use Rattle.refusal.specs.declared.Refusal.{Refusal}
-use Rattle.parameters.specs.declared.TransportParameters.{TransportParameters}
-use Rattle.parameters.specs.declared.Side.{Side}
+use Rattle.record.specs.declared.TransportParameters.{TransportParameters}
+use Rattle.rules.specs.declared.Side.{Side}
 use Rattle.reader.specs.declared.Reading.{Reading}
-use Rattle.reader.specs.declared.Answer.the-variants.{Accepted as AcceptedR, Refused as RefusedR}
+use Rattle.refusal.specs.declared.Answer.the-variants.{Accepted as AcceptedR, Refused as RefusedR, Accepted, Refused}
 use Rattle.reader.specs.Reading.{read}
 use Rattle.reader.specs.Answer.{withRecord, readOutcome, recordIn, settled}
 use Rattle.writer.specs.Writing.{write}
 use Rattle.image.specs.declared.ImagedRecord.{ImagedRecord}
-use Rattle.image.specs.declared.Answer.the-variants.{Accepted, Refused}
 use Rattle.image.specs.Image.{recordFrom}
 use Rattle.image.specs.Answer.{withValue, recordOutcome, settledRecord}
 use Rattle.timing.specs.Timing.{code, lastOf, counted, again, repeat, writtenFrom}

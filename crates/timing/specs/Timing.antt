@@ -2,7 +2,7 @@
 use Prim.Native.Nat.{ℕ, zero, suc}
 use mathlib.Core.List.{List}
 use Rattle.refusal.specs.Outcome.{Outcome, accepted, refused}
-use Rattle.parameters.specs.declared.TransportParameters.{TransportParameters}
+use Rattle.record.specs.declared.TransportParameters.{TransportParameters}
 use Rattle.writer.specs.Writing.{write}
 
 -- 0, or the number of the refusal

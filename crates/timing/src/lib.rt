@@ -8,8 +8,8 @@ ghost use Rattle.tidy.specs.Tidying.{tidy};
 ghost use Rattle.image.specs.Image.{recordFrom};
 ghost use Rattle.reader.specs.Answer.{recordIn};
 ghost use Rattle.timing.specs.Timing.{code, lastOf, counted, again, repeat, writtenFrom};
-use parameters::Side;
-use parameters::TransportParameters;
+use rules::Side;
+use record::TransportParameters;
 use tidy::Tidied;
 use writer::Written;
 
@@ -63,8 +63,8 @@ fn write_once(r: TransportParameters, out: &mut [u8]) -> usize
     ensures { λ n. ⌜ (n, now (out .exit)) ≡ counted (write r (now (out .entry))) ⌝ }
 {
     match writer::write(r, out) {
-        Written::Count(n) => n,
-        Written::Refused(_) => 0,
+        Counted::Count(n) => n,
+        Counted::Refused(_) => 0,
     }
 }
 
@@ -117,7 +117,7 @@ pub extern "C" fn timing_tidy(src: &[u8], out: &mut [u8]) -> usize
     ensures { λ r. ⌜ (r, now (out .exit)) ≡ counted (tidy Side.Client (now (src .entry)) (now (out .entry))) ⌝ }
 {
     match tidy::tidy(Side::Client, src, out) {
-        Tidied::Count(n) => n,
-        Tidied::Refused(_) => 0,
+        Counted::Count(n) => n,
+        Counted::Refused(_) => 0,
     }
 }

@@ -42,10 +42,6 @@ value-gathered zero i a s h = refl
 value-gathered (suc n) i a s h =
     rw (drop-cons s i 0 (omega arith)) (value-gathered n (suc i) (a * 256 + getD s i 0) s (omega arith))
 
--- two numbers side by side in 64 bits, the lower one in k of them
-pub joined : (k a b : ℕ) → a * 2 ^ k < 2 ^ 64 → b < 2 ^ k → bitOr (a * 2 ^ k % 2 ^ 64) b ≡ a * 2 ^ k + b
-joined k a b h hb = rw (mod-eq-of-lt h) (or-shifted a k b hb)
-
 -- a byte with the tag k
 pub tagged : (k x : ℕ) → k ≤ 3 → x < 64 → bitOr (k * 64) x % 256 ≡ k * 64 + x
 tagged k x hk hx = rw (or-shifted k 6 x hx) (mod-eq-of-lt (omega arith))

@@ -6,8 +6,6 @@ use Rattle.varint.specs.declared.Converted.{Converted}
 use Rattle.varint.specs.declared.Converted.the-variants.{Number, Refused as RefusedC}
 use Rattle.varint.specs.declared.Decoded.{Decoded}
 use Rattle.varint.specs.declared.Decoded.the-variants.{Value, Refused}
-use Rattle.varint.specs.declared.Encoded.{Encoded}
-use Rattle.varint.specs.declared.Encoded.the-variants.{Count, Refused as RefusedE}
 
 abbrev pub convertOutcome : Converted → Outcome ℕ
 convertOutcome (Number x) = accepted (x .0)
@@ -16,7 +14,3 @@ convertOutcome (RefusedC r) = refused (numberOf r)
 abbrev pub readOutcome : Decoded → Outcome (ℕ × ℕ)
 readOutcome (Value v n) = accepted (v, n)
 readOutcome (Refused r) = refused (numberOf r)
-
-abbrev pub writeOutcome : Encoded → Outcome ℕ
-writeOutcome (Count n) = accepted n
-writeOutcome (RefusedE r) = refused (numberOf r)

@@ -47,3 +47,7 @@ writeNumber v out = pick (ltb v bound) (store (numberBytes v) out) (refused 4, o
 -- a number that the wire form carries: 4 for any other
 unfoldable pub convertNumber : ℕ → Outcome ℕ
 convertNumber v = pick (ltb v bound) (accepted v) (refused 4)
+
+-- the length of its shortest form: 4 for a number that has none
+unfoldable pub sizeNumber : ℕ → Outcome ℕ
+sizeNumber v = pick (ltb v bound) (accepted (length (numberBytes v))) (refused 4)

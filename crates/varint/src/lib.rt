@@ -3,9 +3,14 @@ ghost use mathlib.Core.Path.{_≡_};
 ghost use Prim.Native.Nat.{_+_, _*_, _/_, _%_, _^_, _<_, _≤_};
 ghost use lib.ListN.{length, getD};
 ghost use Rattle.refusal.specs.Outcome.{front};
-ghost use Rattle.varint.specs.Number.{form, numberBytes, readNumber, writeNumber, convertNumber};
-ghost use Rattle.varint.specs.Answer.{convertOutcome, readOutcome, writeOutcome};
+ghost use Rattle.varint.specs.Number.{form, numberBytes, readNumber, writeNumber, convertNumber, sizeNumber};
+ghost use Rattle.varint.specs.Answer.{convertOutcome, readOutcome};
+ghost use Rattle.refusal.specs.Answer.{countOutcome};
+use refusal::Counted;
 use refusal::Refusal;
+use words::wide;
+use words::word2;
+use words::word4;
 
 pub struct VarInt(pub u64);
 
@@ -18,12 +23,6 @@ pub enum Converted {
 // What reading gives: the value and how many bytes it took.
 pub enum Decoded {
     Value(u64, usize),
-    Refused(Refusal),
-}
-
-// What writing gives: how many bytes it stored.
-pub enum Encoded {
-    Count(usize),
     Refused(Refusal),
 }
 
@@ -55,20 +54,15 @@ impl VarInt {
         self.0
     }
 
-    // How many bytes the shortest form has; 8 for a value that has none.
-    pub fn size(self) -> usize
-        ensures { λ r. ⌜ r ≡ length (numberBytes (self .0)) ⌝ }
+    // How many bytes the shortest form has.
+    pub fn size(self) -> Counted
+        ensures { λ r. ⌜ countOutcome r ≡ sizeNumber (self .0) ⌝ }
     {
         let x = self.0;
-        if x < 64 {
-            1
-        } else if x < 16384 {
-            2
-        } else if x < 1073741824 {
-            4
-        } else {
-            VarInt::MAX_SIZE
+        if VarInt::MAX.0 < x {
+            return Counted::Refused(Refusal::VarIntBoundsExceeded);
         }
+        Counted::Count(size_of(x))
     }
 
     // The number at the front of `src`. The one-byte form stands apart: most numbers are short.
@@ -87,37 +81,33 @@ impl VarInt {
     }
 
     // Writes the shortest form to the front of `out`.
-    pub fn encode(self, out: &mut [u8]) -> Encoded
-        ensures { λ r. ⌜ (writeOutcome r, now (out .exit)) ≡ writeNumber (self .0) (now (out .entry)) ⌝ }
+    pub fn encode(self, out: &mut [u8]) -> Counted
+        ensures { λ r. ⌜ (countOutcome r, now (out .exit)) ≡ writeNumber (self .0) (now (out .entry)) ⌝ }
     {
         let x = self.0;
         if VarInt::MAX.0 < x {
-            return Encoded::Refused(Refusal::VarIntBoundsExceeded);
+            return Counted::Refused(Refusal::VarIntBoundsExceeded);
         }
-        if out.len() < VarInt(x).size() {
-            return Encoded::Refused(Refusal::BufferTooShort);
+        if out.len() < size_of(x) {
+            return Counted::Refused(Refusal::BufferTooShort);
         }
-        Encoded::Count(put(x, out))
+        Counted::Count(put(x, out))
     }
 }
 
-fn wide(x: u8) -> u64
-    ensures { λ r. ⌜ r ≡ x ⌝ }
+// How many bytes the shortest form has; 8 for a value that has none.
+fn size_of(x: u64) -> usize
+    ensures { λ r. ⌜ r ≡ length (numberBytes x) ⌝ }
 {
-    x as u64
-}
-
-// Two bytes as a number, high byte first.
-fn be16(a: u8, b: u8) -> u64
-    ensures { λ r. ⌜ (r ≡ a * 256 + b) × (r < 65536) ⌝ }
-{
-    (wide(a) << 8) | wide(b)
-}
-
-fn be32(a: u8, b: u8, c: u8, d: u8) -> u64
-    ensures { λ r. ⌜ (r ≡ ((a * 256 + b) * 256 + c) * 256 + d) × (r < 4294967296) ⌝ }
-{
-    (be16(a, b) << 16) | be16(c, d)
+    if x < 64 {
+        1
+    } else if x < 16384 {
+        2
+    } else if x < 1073741824 {
+        4
+    } else {
+        VarInt::MAX_SIZE
+    }
 }
 
 // A number of two, four or eight bytes, as `tag` of the first byte says.
@@ -130,19 +120,19 @@ fn decode_longer(tag: u8, src: &[u8]) -> Decoded
         if src.len() < 2 {
             return Decoded::Refused(Refusal::UnexpectedEnd);
         }
-        return Decoded::Value(be16(high, src[1]), 2);
+        return Decoded::Value(word2(src[1], high), 2);
     }
     if tag == 2 {
         if src.len() < 4 {
             return Decoded::Refused(Refusal::UnexpectedEnd);
         }
-        return Decoded::Value(be32(high, src[1], src[2], src[3]), 4);
+        return Decoded::Value(word4(src[3], src[2], src[1], high), 4);
     }
     if src.len() < 8 {
         return Decoded::Refused(Refusal::UnexpectedEnd);
     }
-    let upper = be32(high, src[1], src[2], src[3]);
-    Decoded::Value((upper << 32) | be32(src[4], src[5], src[6], src[7]), 8)
+    let upper = word4(src[3], src[2], src[1], high);
+    Decoded::Value((upper << 32) | word4(src[7], src[6], src[5], src[4]), 8)
 }
 
 // The low byte of a number.

@@ -5,7 +5,7 @@ use connection_id::DecodedCid;
 use libc::STDOUT_FILENO;
 use refusal::Refusal;
 use varint::Decoded;
-use varint::Encoded;
+use refusal::Counted;
 use varint::VarInt;
 
 fn show(name: &[u8], ok: bool) {
@@ -36,8 +36,8 @@ fn cut(src: &[u8]) -> bool {
 // What writing a number into a buffer of nine bytes gives: `count`, or the refusal's number above 100.
 fn written(value: u64, out: &mut [u8]) -> usize {
     match VarInt(value).encode(out) {
-        Encoded::Count(n) => n,
-        Encoded::Refused(r) => refused(r),
+        Counted::Count(n) => n,
+        Counted::Refused(r) => refused(r),
     }
 }
 
@@ -122,8 +122,8 @@ fn cuts() {
 fn cid_refusal(d: DecodedCid) -> u8 {
     let answer = d.answer;
     match answer {
-        CidAnswer::Count(_) => 0,
-        CidAnswer::Refused(r) => r.number(),
+        Counted::Count(_) => 0,
+        Counted::Refused(r) => r.number(),
     }
 }
 

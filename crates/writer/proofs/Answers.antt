@@ -8,11 +8,12 @@ use lib.ListN.{length, take, drop}
 use lib.Seq.{take-append-seam}
 use borrow.Author.Tests.{le-leb, lt-leb}
 use Rattle.refusal.specs.Outcome.{Outcome, accepted, refused, front, store}
-use Rattle.parameters.specs.declared.TransportParameters.{TransportParameters}
-use Rattle.parameters.specs.Record.{wellFormed}
-use Rattle.writer.specs.Writing.{parameterAt, extension, permutation, catalogueOrder, orderOf, write}
+use Rattle.record.specs.declared.TransportParameters.{TransportParameters}
+use Rattle.record.specs.Record.{wellFormed}
+use Rattle.writer.specs.Writing.{parameterAt, extension, orderOf, write}
+use Rattle.order.specs.Order.{permutation, catalogueOrder}
 use Rattle.writer.specs.Stored.{Wrote, Laid, each}
-use Rattle.writer.proofs.Orders.{in-catalogue}
+use Rattle.order.proofs.Orders.{in-catalogue}
 use Rattle.writer.proofs.Extension.{length-extension}
 use Rattle.writer.proofs.Stored.{wrote-as}
 use Rattle.writer.proofs.Catalogue.{in-catalogue-order}

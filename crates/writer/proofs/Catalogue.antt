@@ -14,12 +14,13 @@ use lib.Seq.{length-sets}
 use borrow.Author.Tests.{eqb-true}
 use Rattle.refusal.proofs.Laws.{all-at}
 use Rattle.varint.specs.Number.{bound}
-use Rattle.parameters.specs.declared.TransportParameters.{TransportParameters}
-use Rattle.parameters.specs.Catalogue.{ids, idAt, defaults, parameterIf}
-use Rattle.parameters.specs.Values.{optionalOut, flagOut, cidOut, tokenOut, addressOut, otherValues, valuesOf}
-use Rattle.parameters.specs.Record.{formedOptional, formedOptionalCid, formedAddress, formedReserved, formedOrder, wellFormed}
-use Rattle.parameters.proofs.Places.{number-lt}
-use Rattle.writer.specs.Writing.{reservedBytes, parameterAt, extension, catalogueOrder}
+use Rattle.record.specs.declared.TransportParameters.{TransportParameters}
+use Rattle.catalogue.specs.Catalogue.{ids, idAt, defaults, parameterIf}
+use Rattle.record.specs.Values.{optionalOut, flagOut, cidOut, tokenOut, addressOut, otherValues, valuesOf}
+use Rattle.record.specs.Record.{formedOptional, formedOptionalCid, formedAddress, formedReserved, formedOrder, wellFormed}
+use Rattle.record.proofs.Records.{number-lt}
+use Rattle.writer.specs.Writing.{reservedBytes, parameterAt, extension}
+use Rattle.order.specs.Order.{catalogueOrder}
 use Rattle.writer.specs.Stored.{Laid, joined, endsFrom, each, numberAt}
 use Rattle.writer.proofs.Stored.{lent, back}
 use Rattle.writer.proofs.Laid.{laid-then}

@@ -15,17 +15,17 @@ use Rattle.varint.proofs.Bytes.{stored}
 use Rattle.connection_id.specs.declared.ConnectionId.{ConnectionId}
 use Rattle.connection_id.specs.ConnectionId.{cidBytes, cidWire, formedCid}
 use Rattle.connection_id.proofs.Laws.{cid-facts}
-use Rattle.parameters.specs.declared.OptionalNumber.{OptionalNumber}
-use Rattle.parameters.specs.declared.OptionalNumber.the-variants.{Absent, Present}
-use Rattle.parameters.specs.declared.OptionalConnectionId.{OptionalConnectionId}
-use Rattle.parameters.specs.declared.OptionalResetToken.{OptionalResetToken}
-use Rattle.parameters.specs.declared.PreferredAddress.{PreferredAddress}
-use Rattle.parameters.specs.declared.ReservedTransportParameter.{ReservedTransportParameter}
-use Rattle.parameters.specs.Catalogue.{parameter, parameterIf}
-use Rattle.parameters.specs.Values.{numberOut, optionalOut, flagOut, cidOut, tokenOut, Family, ofV4, ofV6, familyOut, addressOut}
-use Rattle.parameters.specs.Record.{least, formedOptional, formedOptionalCid, formedAddress, formedReserved}
+use Rattle.record.specs.declared.OptionalNumber.{OptionalNumber}
+use Rattle.record.specs.declared.OptionalNumber.the-variants.{Absent, Present}
+use Rattle.record.specs.declared.OptionalConnectionId.{OptionalConnectionId}
+use Rattle.record.specs.declared.OptionalResetToken.{OptionalResetToken}
+use Rattle.record.specs.declared.PreferredAddress.{PreferredAddress}
+use Rattle.record.specs.declared.ReservedTransportParameter.{ReservedTransportParameter}
+use Rattle.catalogue.specs.Catalogue.{parameter, parameterIf}
+use Rattle.record.specs.Values.{numberOut, optionalOut, flagOut, cidOut, tokenOut, Family, ofV4, ofV6, familyOut, addressOut}
+use Rattle.record.specs.Record.{least, formedOptional, formedOptionalCid, formedAddress, formedReserved, isPresent}
 use Rattle.writer.specs.Writing.{reservedBytes}
-use Rattle.writer.specs.Stored.{isPresent, Wrote}
+use Rattle.writer.specs.Stored.{Wrote}
 use Rattle.writer.proofs.Stored.{wrote-then, short-form, one-byte, number-size}
 
 -- numbers

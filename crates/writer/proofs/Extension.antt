@@ -15,18 +15,19 @@ use Rattle.refusal.specs.Outcome.{pick, all}
 use Rattle.refusal.proofs.Laws.{all-at}
 use Rattle.varint.specs.Number.{bound, form, tagOf}
 use Rattle.connection_id.specs.ConnectionId.{cidOf, formedCid}
-use Rattle.parameters.specs.declared.TransportParameters.{TransportParameters}
-use Rattle.parameters.specs.declared.OptionalConnectionId.{OptionalConnectionId}
-use Rattle.parameters.specs.declared.OptionalNumber.the-variants.{Present}
-use Rattle.parameters.specs.declared.ReservedTransportParameter.{ReservedTransportParameter}
-use Rattle.parameters.specs.Catalogue.{Kind, reserved, places, ids, idAt, kinds, kindAt, defaults, parameter, parameterIf}
-use Rattle.parameters.specs.Values.{numberOut, optionalOut, flagOut, cidOut, tokenOf, tokenOut, familyOut, addressOut, noOrder, otherValues, valuesOf}
-use Rattle.parameters.specs.Record.{formedOptional, formedOptionalCid, formedToken, formedOptionalToken, formedFamily, formedAddress, formedReserved, formedOrder, wellFormed}
-use Rattle.parameters.proofs.Sums.{sum, sum-le}
-use Rattle.parameters.proofs.KindLaws.{widest, IfSome, Sound, number-mono, parameter-mono}
-use Rattle.parameters.proofs.Places.{Families, sound}
-use Rattle.writer.specs.Writing.{reservedBytes, parameterAt, concatOf, extension, permutation, catalogueOrder}
-use Rattle.writer.proofs.Orders.{weigh, weigh-all}
+use Rattle.record.specs.declared.TransportParameters.{TransportParameters}
+use Rattle.record.specs.declared.OptionalConnectionId.{OptionalConnectionId}
+use Rattle.record.specs.declared.OptionalNumber.the-variants.{Present}
+use Rattle.record.specs.declared.ReservedTransportParameter.{ReservedTransportParameter}
+use Rattle.catalogue.specs.Catalogue.{Kind, reserved, places, ids, idAt, kinds, kindAt, defaults, parameter, parameterIf, widest}
+use Rattle.record.specs.Values.{numberOut, optionalOut, flagOut, cidOut, tokenOf, tokenOut, familyOut, addressOut, noOrder, otherValues, valuesOf}
+use Rattle.record.specs.Record.{formedOptional, formedOptionalCid, formedToken, formedOptionalToken, formedFamily, formedAddress, formedReserved, formedOrder, wellFormed}
+use Rattle.catalogue.proofs.Sums.{sum, sum-le}
+use Rattle.record.proofs.KindLaws.{IfSome, Sound, number-mono, parameter-mono}
+use Rattle.record.proofs.Records.{Families, sound}
+use Rattle.writer.specs.Writing.{reservedBytes, parameterAt, concatOf, extension}
+use Rattle.order.specs.Order.{permutation, catalogueOrder}
+use Rattle.order.proofs.Orders.{weigh, weigh-all}
 
 length-concat : (f : ℕ → List ℕ) (os : List ℕ) → length (concatOf f os) ≡ weigh (λ p. length (f p)) os
 length-concat f [] = refl

@@ -13,9 +13,9 @@ use lib.ListN.{length, getD, drop, set, length-append, List·getD-append}
 use lib.Seq.{sets}
 use lib.Dec.{ltb}
 use borrow.Author.Tests.{ltb-true}
-use Rattle.parameters.specs.Catalogue.{ids, idAt, defaults, parameterIf}
-use Rattle.parameters.specs.Values.{numberOut}
-use Rattle.parameters.proofs.Places.{below-at}
+use Rattle.catalogue.specs.Catalogue.{ids, idAt, defaults, parameterIf}
+use Rattle.record.specs.Values.{numberOut}
+use Rattle.catalogue.proofs.Places.{below-at}
 use Rattle.writer.specs.Stored.{Wrote, Laid, joined, endsFrom, each, numberAt}
 use Rattle.writer.proofs.Stored.{lent, back, wrote-none, wrote-as, wrote-then}
 

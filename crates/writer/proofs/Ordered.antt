@@ -17,11 +17,12 @@ use borrow.Author.Tests.{eqb-true, eqb-false}
 use lib.Dec.{eqb}
 use Rattle.refusal.specs.Outcome.{front}
 use Rattle.refusal.proofs.Laws.{all-at}
-use Rattle.parameters.specs.declared.TransportParameters.{TransportParameters}
-use Rattle.parameters.specs.Catalogue.{places}
-use Rattle.writer.specs.Writing.{concatOf, parameterAt, extension, distinct, permutation}
+use Rattle.record.specs.declared.TransportParameters.{TransportParameters}
+use Rattle.catalogue.specs.Catalogue.{places}
+use Rattle.writer.specs.Writing.{concatOf, parameterAt, extension}
+use Rattle.order.specs.Order.{distinct, permutation}
 use Rattle.writer.specs.Stored.{Wrote, Laid, joined, endsFrom, each, partAt, InOrder}
-use Rattle.writer.proofs.Orders.{first}
+use Rattle.order.proofs.Orders.{first}
 use Rattle.writer.proofs.Stored.{lent, back, front-then, wrote-as, wrote-length}
 use Rattle.writer.proofs.Laid.{joined-append, length-ends, length-each}
 

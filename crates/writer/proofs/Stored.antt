@@ -17,12 +17,12 @@ use lib.Seq.{take-all, take-length, take-append-seam, drop-append-seam, drop-dro
 use borrow.Author.Tests.{lt-ltb, le-leb}
 use Rattle.refusal.specs.Outcome.{Outcome, accepted, refused, front, store}
 use Rattle.refusal.specs.declared.Refusal.{Refusal}
-use Rattle.varint.specs.declared.Encoded.{Encoded}
-use Rattle.varint.specs.declared.Encoded.the-variants.{Count, Refused}
-use Rattle.varint.specs.Answer.{writeOutcome}
+use Rattle.refusal.specs.declared.Counted.{Counted}
+use Rattle.refusal.specs.declared.Counted.the-variants.{Count, Refused}
+use Rattle.refusal.specs.Answer.{countOutcome}
 use Rattle.varint.specs.Number.{bound, form, tagOf, numberBytes, writeNumber}
 use Rattle.varint.proofs.Bytes.{tag-0, tag-le, length-form, width-range}
-use Rattle.parameters.specs.Catalogue.{parameter}
+use Rattle.catalogue.specs.Catalogue.{parameter}
 use Rattle.writer.specs.Stored.{Wrote}
 
 pub front-nil : (l : List ℕ) → front [] l ≡ l
@@ -133,8 +133,8 @@ wrote-front-two p n a b d s (x ∷ y ∷ l) ys h q w =
 pub number-size : (x : ℕ) → (1 ≤ length (numberBytes x)) × (length (numberBytes x) ≤ 8)
 number-size x = rw (length-form (tagOf x) x (tag-le x)) (width-range (tagOf x) (tag-le x))
 
-module _ (x : ℕ) (e : Encoded) (out out′ : List ℕ) (h : x < bound) (k : 8 ≤ length out) (w : (writeOutcome e, out′) ≡ writeNumber x out) where
-  accept : _≡_ {A = Outcome ℕ × List ℕ} (writeOutcome e, out′) (accepted (length (numberBytes x)), front (numberBytes x) out)
+module _ (x : ℕ) (e : Encoded) (out out′ : List ℕ) (h : x < bound) (k : 8 ≤ length out) (w : (countOutcome e, out′) ≡ writeNumber x out) where
+  accept : _≡_ {A = Outcome ℕ × List ℕ} (countOutcome e, out′) (accepted (length (numberBytes x)), front (numberBytes x) out)
   unfolding writeNumber store
   accept =
       let l : length (numberBytes x) ≤ length out = omega (arith, number-size x) in
@@ -142,13 +142,13 @@ module _ (x : ℕ) (e : Encoded) (out out′ : List ℕ) (h : x < bound) (k : 8 
 
   pub encoded : (n : ℕ) → e ≡ Count n → Wrote 8 (numberBytes x) out n out′
   encoded n f =
-      let a : writeOutcome (Count n) ≡ accepted (length (numberBytes x)) = ap writeOutcome (sym f) ∙ ap (λ (p : Outcome ℕ × List ℕ). p .0) accept in
+      let a : countOutcome (Count n) ≡ accepted (length (numberBytes x)) = ap countOutcome (sym f) ∙ ap (λ (p : Outcome ℕ × List ℕ). p .0) accept in
       let c : n ≡ length (numberBytes x) = cc in
       record { count = c; few = omega (arith, number-size x); bytes = ap (λ (p : Outcome ℕ × List ℕ). p .1) accept }
 
   pub never : {P : Type 0} (r : Refusal) → e ≡ Refused r → P
   never r f =
-      let a : writeOutcome (Refused r) ≡ accepted (length (numberBytes x)) = ap writeOutcome (sym f) ∙ ap (λ (p : Outcome ℕ × List ℕ). p .0) accept in
+      let a : countOutcome (Refused r) ≡ accepted (length (numberBytes x)) = ap countOutcome (sym f) ∙ ap (λ (p : Outcome ℕ × List ℕ). p .0) accept in
       let z : _≡_ {A = ℕ} 0 1 = cc in
       absurd (omega arith)
 

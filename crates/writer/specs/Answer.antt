@@ -2,9 +2,9 @@
 use Prim.Native.Nat.{ℕ}
 use Rattle.refusal.specs.Outcome.{Outcome, accepted, refused}
 use Rattle.refusal.specs.Number.{numberOf}
-use Rattle.writer.specs.declared.Written.{Written}
-use Rattle.writer.specs.declared.Written.the-variants.{Count, Refused}
+use Rattle.refusal.specs.declared.Counted.{Counted}
+use Rattle.refusal.specs.declared.Counted.the-variants.{Count, Refused}
 
-abbrev pub writeOutcome : Written → Outcome ℕ
-writeOutcome (Count n) = accepted n
-writeOutcome (Refused r) = refused (numberOf r)
+abbrev pub countOutcome : Written → Outcome ℕ
+countOutcome (Count n) = accepted n
+countOutcome (Refused r) = refused (numberOf r)

@@ -6,10 +6,10 @@ use mathlib.Core.Bool.{Bool, true, false}
 use lib.ListN.{length, getD, take, drop}
 use lib.Seq.{sets}
 use Rattle.refusal.specs.Outcome.{front}
-use Rattle.parameters.specs.declared.OptionalNumber.{OptionalNumber}
-use Rattle.parameters.specs.declared.OptionalNumber.the-variants.{Absent, Present}
-use Rattle.parameters.specs.Catalogue.{places, defaults, idAt, parameterIf}
-use Rattle.parameters.specs.Values.{numberOut}
+use Rattle.record.specs.declared.OptionalNumber.{OptionalNumber}
+use Rattle.record.specs.declared.OptionalNumber.the-variants.{Absent, Present}
+use Rattle.catalogue.specs.Catalogue.{places, defaults, idAt, parameterIf}
+use Rattle.record.specs.Values.{numberOut}
 use Rattle.writer.specs.Writing.{concatOf}
 
 abbrev pub isPresent : OptionalNumber → Bool

@@ -5,12 +5,12 @@ use mathlib.Core.Bool.{Bool, true, false, _&&_, _||_, not}
 use lib.ListN.{length, take}
 use lib.Dec.{ltb, eqb}
 use Rattle.refusal.specs.Outcome.{Outcome, refused, pick, all, store}
-use Rattle.parameters.specs.declared.TransportParameters.{TransportParameters}
-use Rattle.parameters.specs.declared.ReservedTransportParameter.{ReservedTransportParameter}
-use Rattle.parameters.specs.declared.WriteOrder.{WriteOrder}
-use Rattle.parameters.specs.Catalogue.{places, idAt, parameter, parameterIf}
-use Rattle.parameters.specs.Values.{valuesOf}
-use Rattle.parameters.specs.Record.{wellFormed}
+use Rattle.record.specs.declared.TransportParameters.{TransportParameters}
+use Rattle.record.specs.declared.ReservedTransportParameter.{ReservedTransportParameter}
+use Rattle.record.specs.declared.WriteOrder.{WriteOrder}
+use Rattle.catalogue.specs.Catalogue.{places, idAt, parameter, parameterIf}
+use Rattle.record.specs.Values.{valuesOf}
+use Rattle.record.specs.Record.{wellFormed}
 
 -- the reserved parameter, if present
 unfoldable pub reservedBytes : ReservedTransportParameter → List ℕ
@@ -27,21 +27,6 @@ concatOf f (p ∷ os) = f p ++ concatOf f os
 -- the bytes due, in an order
 unfoldable pub extension : TransportParameters → List ℕ → List ℕ
 extension r os = concatOf (parameterAt r) os
-
--- ORDERS. A permutation of 0 to 20: 21 entries, each a place, and none of them twice
-abbrev pub member : ℕ → List ℕ → Bool
-member q [] = false
-member q (p ∷ os) = eqb q p || member q os
-
-abbrev pub distinct : List ℕ → Bool
-distinct [] = true
-distinct (p ∷ os) = ltb p places && (not (member p os) && distinct os)
-
-unfoldable pub permutation : List ℕ → Bool
-permutation os = all (eqb (length os) places ∷ distinct os ∷ [])
-
-unfoldable pub catalogueOrder : List ℕ
-catalogueOrder = 0 ∷ 1 ∷ 2 ∷ 3 ∷ 4 ∷ 5 ∷ 6 ∷ 7 ∷ 8 ∷ 9 ∷ 10 ∷ 11 ∷ 12 ∷ 13 ∷ 14 ∷ 15 ∷ 16 ∷ 17 ∷ 18 ∷ 19 ∷ 20 ∷ []
 
 -- no order given means catalogue order
 unfoldable pub orderOf : WriteOrder → List ℕ

@@ -7,33 +7,26 @@ ghost use lib.ListN.{length, getD};
 ghost use Rattle.refusal.specs.Outcome.{front, store};
 ghost use Rattle.varint.specs.Number.{bound, bytesOf, numberBytes};
 ghost use Rattle.connection_id.specs.ConnectionId.{cidBytes, formedCid};
-ghost use Rattle.parameters.specs.Catalogue.{parameter, parameterIf};
-ghost use Rattle.parameters.specs.Values.{numberOut, optionalOut, flagOut, cidOut, tokenOut, ofV4, ofV6, familyOut, addressOut};
-ghost use Rattle.parameters.specs.Record.{least, formedOptional, formedOptionalCid, formedAddress, formedReserved, wellFormed};
-ghost use Rattle.writer.specs.Writing.{permutation, reservedBytes, parameterAt, concatOf, extension, catalogueOrder, write};
-ghost use Rattle.writer.specs.Answer.{writeOutcome};
-ghost use Rattle.writer.specs.Stored.{isPresent, Wrote, Laid, each, numberAt, partAt, InOrder};
+ghost use Rattle.catalogue.specs.Catalogue.{parameter, parameterIf};
+ghost use Rattle.record.specs.Values.{numberOut, optionalOut, flagOut, cidOut, tokenOut, ofV4, ofV6, familyOut, addressOut};
+ghost use Rattle.record.specs.Record.{least, formedOptional, formedOptionalCid, formedAddress, formedReserved, wellFormed, isPresent};
+ghost use Rattle.order.specs.Order.{permutation, catalogueOrder};
+ghost use Rattle.writer.specs.Writing.{reservedBytes, parameterAt, concatOf, extension, write};
+ghost use Rattle.refusal.specs.Answer.{countOutcome};
+ghost use Rattle.writer.specs.Stored.{Wrote, Laid, each, numberAt, partAt, InOrder};
 use connection_id::ConnectionId;
-use marks::is_marked;
-use marks::with_mark;
-use parameters::OptionalConnectionId;
-use parameters::OptionalNumber;
-use parameters::OptionalResetToken;
-use parameters::PreferredAddress;
-use parameters::ReservedTransportParameter;
-use parameters::ResetToken;
-use parameters::SocketAddrV4;
-use parameters::SocketAddrV6;
-use parameters::TransportParameters;
+use record::OptionalConnectionId;
+use record::OptionalNumber;
+use record::OptionalResetToken;
+use record::PreferredAddress;
+use record::ReservedTransportParameter;
+use record::ResetToken;
+use record::SocketAddrV4;
+use record::SocketAddrV6;
+use record::TransportParameters;
 use refusal::Refusal;
-use varint::Encoded;
+use refusal::Counted;
 use varint::VarInt;
-
-// What writing gives: how many bytes it stored.
-pub enum Written {
-    Count(usize),
-    Refused(Refusal),
-}
 
 // No extension is longer.
 const MAX_SIZE: usize = 314;
@@ -42,29 +35,6 @@ fn wide(x: u8) -> usize
     ensures { λ r. ⌜ r ≡ x ⌝ }
 {
     x as usize
-}
-
-// Whether an order is a permutation of the places: the places met are marked, from the last entry on.
-pub fn is_permutation(order: &[u8]) -> bool
-    ensures { λ r. ⌜ r ≡ permutation (now (order .entry)) ⌝ }
-{
-    if order.len() != TransportParameters::PLACES {
-        return false;
-    }
-    let mut met: u32 = 0;
-    let mut i = TransportParameters::PLACES;
-    while 0 < i {
-        i -= 1;
-        let place = wide(order[i]);
-        if TransportParameters::PLACES <= place {
-            return false;
-        }
-        if is_marked(met, place) {
-            return false;
-        }
-        met = with_mark(met, place);
-    }
-    true
 }
 
 // Stores the bytes at the front of `out`.
@@ -96,7 +66,7 @@ fn put_number(x: u64, out: &mut [u8]) -> usize
     requires { ⌜ (x < bound) × (8 ≤ length (now out)) ⌝ }
     ensures { λ r. ⌜ Wrote 8 (numberBytes x) (now (out .entry)) r (now (out .exit)) ⌝ }
 {
-    let Encoded::Count(n) = VarInt(x).encode(out) else {
+    let Counted::Count(n) = VarInt(x).encode(out) else {
         return 0;
     };
     n
@@ -476,7 +446,7 @@ fn put_ordered(order: &[u8; 21], starts: &[usize; 22], parts: &[u8], out: &mut [
 {
     let mut at: usize = 0;
     let mut k: usize = 0;
-    while k < TransportParameters::PLACES {
+    while k < PLACES {
         let p = wide(order[k]);
         let from = starts[p];
         let to = starts[p + 1];
@@ -488,61 +458,61 @@ fn put_ordered(order: &[u8; 21], starts: &[usize; 22], parts: &[u8], out: &mut [
 }
 
 // With an order, the parameters are written in catalogue order first.
-fn write_ordered(r: TransportParameters, order: &[u8; 21], out: &mut [u8]) -> Written
+fn write_ordered(r: TransportParameters, order: &[u8; 21], out: &mut [u8]) -> Counted
     requires { ⌜ (wellFormed r ≡ true) × (permutation (now order) ≡ true) ⌝ }
-    ensures { λ w. ⌜ (writeOutcome w, now (out .exit)) ≡ store (extension r (now (order .entry))) (now (out .entry)) ⌝ }
+    ensures { λ w. ⌜ (countOutcome w, now (out .exit)) ≡ store (extension r (now (order .entry))) (now (out .entry)) ⌝ }
 {
     let mut starts = [0usize; 22];
     let mut parts = [0u8; 314];
     let due = put_catalogue(r, &mut starts, &mut parts);
     if out.len() < due {
-        return Written::Refused(Refusal::BufferTooShort);
+        return Counted::Refused(Refusal::BufferTooShort);
     }
-    Written::Count(put_ordered(order, &starts, &parts, out))
+    Counted::Count(put_ordered(order, &starts, &parts, out))
 }
 
 // In catalogue order they go straight to a buffer that has room for any.
-fn write_unordered(r: TransportParameters, out: &mut [u8]) -> Written
+fn write_unordered(r: TransportParameters, out: &mut [u8]) -> Counted
     requires { ⌜ wellFormed r ≡ true ⌝ }
-    ensures { λ w. ⌜ (writeOutcome w, now (out .exit)) ≡ store (extension r catalogueOrder) (now (out .entry)) ⌝ }
+    ensures { λ w. ⌜ (countOutcome w, now (out .exit)) ≡ store (extension r catalogueOrder) (now (out .entry)) ⌝ }
 {
     let mut starts = [0usize; 22];
     if MAX_SIZE <= out.len() {
-        return Written::Count(put_catalogue(r, &mut starts, out));
+        return Counted::Count(put_catalogue(r, &mut starts, out));
     }
     let mut parts = [0u8; 314];
     let n = put_catalogue(r, &mut starts, &mut parts);
     if out.len() < n {
-        return Written::Refused(Refusal::BufferTooShort);
+        return Counted::Refused(Refusal::BufferTooShort);
     }
     put_bytes(&parts[..n], out);
-    Written::Count(n)
+    Counted::Count(n)
 }
 
-fn write_in_order(r: TransportParameters, out: &mut [u8]) -> Written
+fn write_in_order(r: TransportParameters, out: &mut [u8]) -> Counted
     requires { ⌜ r .«write_order» .present ≡ true ⌝ }
-    ensures { λ w. ⌜ (writeOutcome w, now (out .exit)) ≡ write r (now (out .entry)) ⌝ }
+    ensures { λ w. ⌜ (countOutcome w, now (out .exit)) ≡ write r (now (out .entry)) ⌝ }
 {
     if !r.is_well_formed() {
-        return Written::Refused(Refusal::IllFormed);
+        return Counted::Refused(Refusal::IllFormed);
     }
     let places = r.write_order.places;
     if !is_permutation(&places) {
-        return Written::Refused(Refusal::InvalidOrder);
+        return Counted::Refused(Refusal::InvalidOrder);
     }
     write_ordered(r, &places, out)
 }
 
 // Writes the record to the front of `out`, in its order. Both ways test the record, so that the test stays a function of its own: inlined, it
 // has the whole record copied byte by byte.
-pub fn write(r: TransportParameters, out: &mut [u8]) -> Written
-    ensures { λ w. ⌜ (writeOutcome w, now (out .exit)) ≡ write r (now (out .entry)) ⌝ }
+pub fn write(r: TransportParameters, out: &mut [u8]) -> Counted
+    ensures { λ w. ⌜ (countOutcome w, now (out .exit)) ≡ write r (now (out .entry)) ⌝ }
 {
     if r.write_order.present {
         return write_in_order(r, out);
     }
     if !r.is_well_formed() {
-        return Written::Refused(Refusal::IllFormed);
+        return Counted::Refused(Refusal::IllFormed);
     }
     write_unordered(r, out)
 }

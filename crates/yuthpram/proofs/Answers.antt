@@ -19,22 +19,20 @@ use Rattle.varint.specs.Number.{numberBytes, tagOf}
 use Rattle.varint.proofs.Bytes.{size-at, tag-le, width-range}
 use Rattle.connection_id.specs.declared.ConnectionId.{ConnectionId}
 use Rattle.connection_id.specs.declared.DecodedCid.{DecodedCid}
-use Rattle.connection_id.specs.declared.CidAnswer.the-variants.{Count, Refused as RefusedC}
+use Rattle.refusal.specs.declared.Counted.the-variants.{Count, Refused as RefusedC}
 use Rattle.connection_id.specs.ConnectionId.{formedCid, readCid}
 use Rattle.connection_id.specs.Answer.{withCid, readOutcome, settled}
-use Rattle.parameters.specs.declared.Side.{Side}
+use Rattle.rules.specs.declared.Side.{Side}
 use Rattle.reader.specs.declared.Reading.{Reading}
-use Rattle.reader.specs.declared.Answer.the-variants.{Accepted as AcceptedR, Refused as RefusedR}
+use Rattle.refusal.specs.declared.Answer.the-variants.{Accepted as AcceptedR, Refused as RefusedR, Accepted as AcceptedB, Refused as RefusedB, Accepted, Refused}
 use Rattle.reader.specs.Reading.{read}
 use Rattle.reader.specs.Answer.{withRecord, readOutcome as readingOutcome, settled as settledReading}
 use Rattle.building.specs.declared.Settings.{Settings}
 use Rattle.building.specs.declared.Built.{Built}
-use Rattle.building.specs.declared.Building.the-variants.{Accepted as AcceptedB, Refused as RefusedB}
 use Rattle.building.specs.Building.{settingsFit, build}
 use Rattle.building.specs.Answer.{withRecord as withBuilt, buildOutcome, settled as settledBuilt}
 use Rattle.image.specs.declared.ImagedRecord.{ImagedRecord}
 use Rattle.image.specs.declared.ImagedCid.{ImagedCid}
-use Rattle.image.specs.declared.Answer.the-variants.{Accepted, Refused}
 use Rattle.image.specs.Image.{recordFrom, cidFrom}
 use Rattle.image.specs.Answer.{withValue, recordOutcome, cidOutcome, settledRecord, settledCid}
 use Rattle.yuthpram.specs.Interface.{code, coded, counted, counting, given, numberInto, settingsFrom, buildFrom, idOr, newRecord}

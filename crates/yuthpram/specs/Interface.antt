@@ -9,13 +9,15 @@ use Rattle.refusal.specs.Outcome.{Outcome, accepted, refused, pick, andThen, st
 use Rattle.varint.specs.Number.{readNumber, writeNumber}
 use Rattle.connection_id.specs.declared.ConnectionId.{ConnectionId}
 use Rattle.connection_id.specs.ConnectionId.{readCid, writeCid}
-use Rattle.parameters.specs.declared.TransportParameters.{TransportParameters}
-use Rattle.parameters.specs.declared.OptionalNumber.the-variants.{Absent, Present}
-use Rattle.parameters.specs.declared.Side.{Side}
-use Rattle.parameters.specs.declared.Side.the-variants.{Client, Server}
-use Rattle.parameters.specs.Record.{checkRecord, defaultRecord}
+use Rattle.record.specs.declared.TransportParameters.{TransportParameters}
+use Rattle.record.specs.declared.OptionalNumber.the-variants.{Absent, Present}
+use Rattle.rules.specs.declared.Side.{Side}
+use Rattle.rules.specs.declared.Side.the-variants.{Client, Server}
+use Rattle.rules.specs.Rules.{checkRecord}
+use Rattle.record.specs.Record.{defaultRecord}
 use Rattle.reader.specs.Reading.{read}
-use Rattle.writer.specs.Writing.{permutation, write}
+use Rattle.order.specs.Order.{permutation}
+use Rattle.writer.specs.Writing.{write}
 use Rattle.tidy.specs.Tidying.{tidy}
 use Rattle.building.specs.declared.Settings.{Settings}
 use Rattle.building.specs.Building.{settingsFit, build}

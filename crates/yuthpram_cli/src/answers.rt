@@ -8,12 +8,12 @@ use crate::out::say_hex;
 use crate::out::say_number;
 use crate::show;
 use parameters::Checked;
-use parameters::Side;
-use parameters::TransportParameters;
+use rules::Side;
+use record::TransportParameters;
 use reader::Answer;
 use tidy::Tidied;
 use varint::Decoded;
-use varint::Encoded;
+use refusal::Counted;
 use varint::VarInt;
 use writer::Written;
 
@@ -39,7 +39,7 @@ pub fn check(side: Side, src: &[u8]) {
 // Which rule a record breaks: that which its extension breaks, or that no family that is given is all zero.
 fn say_rule(side: Side, record: TransportParameters) {
     let mut out = [0u8; 314];
-    let Written::Count(n) = writer::write(record, &mut out) else {
+    let Counted::Count(n) = writer::write(record, &mut out) else {
         return;
     };
     let extension = first(n, &out);
@@ -69,11 +69,11 @@ pub fn write(text: &[u8]) {
     let record = form::record_of(text);
     let mut out = [0u8; 314];
     match writer::write(record, &mut out) {
-        Written::Count(n) => {
+        Counted::Count(n) => {
             say_hex(first(n, &out));
             say(b"\n");
         }
-        Written::Refused(r) => fault::say_refusal(r),
+        Counted::Refused(r) => fault::say_refusal(r),
     }
 }
 
@@ -89,12 +89,12 @@ fn say_saved(before: usize, after: usize) {
 pub fn tidy(side: Side, src: &[u8]) {
     let mut out = [0u8; 314];
     match tidy::tidy(side, src, &mut out) {
-        Tidied::Count(n) => {
+        Counted::Count(n) => {
             say_hex(first(n, &out));
             say(b"\n");
             say_saved(src.len(), n);
         }
-        Tidied::Refused(r) => fault::explain(side, r, src),
+        Counted::Refused(r) => fault::explain(side, r, src),
     }
 }
 
@@ -113,10 +113,10 @@ pub fn decode(src: &[u8]) {
 pub fn encode(x: u64) {
     let mut out = [0u8; 8];
     match VarInt(x).encode(&mut out) {
-        Encoded::Count(n) => {
+        Counted::Count(n) => {
             say_hex(first(n, &out));
             say(b"\n");
         }
-        Encoded::Refused(r) => fault::say_refusal(r),
+        Counted::Refused(r) => fault::say_refusal(r),
     }
 }

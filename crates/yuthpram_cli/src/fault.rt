@@ -5,7 +5,7 @@ use crate::names;
 use crate::out::say;
 use crate::out::say_identifier;
 use crate::out::say_number;
-use parameters::Side;
+use rules::Side;
 use reader::Answer;
 use refusal::Refusal;
 use varint::Decoded;
@@ -127,7 +127,7 @@ fn locate(side: Side, number: u8, src: &[u8]) -> Fault {
                 why: Why::Cut,
             };
         }
-        let place = parameters::place_of(id);
+        let place = catalogue::place_of(id);
         let why = judge(
             side,
             marks::is_marked(met, place),
@@ -184,7 +184,7 @@ fn say_presence(side: Side) {
 fn say_cause(side: Side, f: Fault) {
     let why = f.why;
     let id = f.id;
-    let place = parameters::place_of(id);
+    let place = catalogue::place_of(id);
     names::say_name(place);
     say(b" (");
     say_identifier(id);

@@ -9,16 +9,16 @@ use crate::text::parse_decimal;
 use crate::text::parse_hex;
 use crate::text::word;
 use connection_id::ConnectionId;
-use parameters::OptionalConnectionId;
-use parameters::OptionalNumber;
-use parameters::OptionalResetToken;
-use parameters::PreferredAddress;
-use parameters::ReservedTransportParameter;
-use parameters::ResetToken;
-use parameters::SocketAddrV4;
-use parameters::SocketAddrV6;
-use parameters::TransportParameters;
-use parameters::WriteOrder;
+use record::OptionalConnectionId;
+use record::OptionalNumber;
+use record::OptionalResetToken;
+use record::PreferredAddress;
+use record::ReservedTransportParameter;
+use record::ResetToken;
+use record::SocketAddrV4;
+use record::SocketAddrV6;
+use record::TransportParameters;
+use record::WriteOrder;
 
 // Where the line after that at `at` starts.
 pub fn next_line(text: &[u8], at: usize) -> usize

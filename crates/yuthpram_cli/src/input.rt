@@ -6,7 +6,7 @@ use crate::out::complain_number;
 use crate::text::Hex;
 use crate::text::parse_hex;
 use libc::STDIN_FILENO;
-use parameters::Side;
+use rules::Side;
 
 // The input's bytes, of which there are so many; or there is a complaint.
 pub enum Input {

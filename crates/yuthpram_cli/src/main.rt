@@ -14,7 +14,7 @@ use input::Input;
 use input::SideWord;
 use input::first;
 use out::complain;
-use parameters::Side;
+use rules::Side;
 use text::DecimalText;
 
 enum Command {

@@ -5,14 +5,14 @@ use crate::out::say_group;
 use crate::out::say_hex;
 use crate::out::say_number;
 use connection_id::ConnectionId;
-use parameters::OptionalConnectionId;
-use parameters::OptionalNumber;
-use parameters::OptionalResetToken;
-use parameters::PreferredAddress;
-use parameters::ResetToken;
-use parameters::SocketAddrV4;
-use parameters::SocketAddrV6;
-use parameters::TransportParameters;
+use record::OptionalConnectionId;
+use record::OptionalNumber;
+use record::OptionalResetToken;
+use record::PreferredAddress;
+use record::ResetToken;
+use record::SocketAddrV4;
+use record::SocketAddrV6;
+use record::TransportParameters;
 
 fn say_unit(place: usize) {
     match place {

@@ -1,7 +1,7 @@
 -- `building::new` meets its contract: the tests that led to each `return` pick the case of `build`. Assumes nothing.
 use Rattle.building.proofs.Answers.{refused-with, accepted-with, fails, holds, draw-facts, order-length, for-setting, for-cid, for-draw, for-order, for-record}
 use Rattle.building.specs.Building.{settingsFit, drawFits, recordFrom}
-use Rattle.writer.specs.Writing.{permutation}
+use Rattle.order.specs.Order.{permutation}
 use Rattle.connection_id.specs.ConnectionId.{formedCid}
 use mathlib.Core.Bool.{true}
 use mathlib.Core.Path.{_≡_, _∙_, ap₂}

@@ -1,5 +1,5 @@
 -- `building::numbers_of` meets its contract. Assumes nothing.
-use Rattle.parameters.specs.Catalogue.{defaults}
+use Rattle.catalogue.specs.Catalogue.{defaults}
 use Rattle.building.specs.Building.{numbersFrom}
 use borrow.Author.Needs.{needs}
 use Rattle.building.proofs.numbers_of.Statement.{statement}

@@ -1,6 +1,6 @@
 -- `building::settings_fit` meets its contract. Assumes nothing.
-use Rattle.parameters.proofs.Tests.{at-most}
-use Rattle.connection_id.proofs.Laws.{and-true}
+use Rattle.record.proofs.Tests.{at-most}
+use Rattle.words.proofs.Laws.{and-true}
 use Rattle.building.specs.Building.{settingsFit, sentSettings}
 use borrow.Author.Needs.{needs}
 use Rattle.building.proofs.settings_fit.Statement.{statement}

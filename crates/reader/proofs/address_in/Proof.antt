@@ -1,5 +1,5 @@
 -- `reader::address_in` meets its contract. Assumes nothing.
-use Rattle.parameters.specs.Values.{recordOf, noValues}
+use Rattle.record.specs.Values.{recordOf, noValues}
 use mathlib.Core.Bool.{false}
 use mathlib.Core.Path.{_≡_, _∙_}
 use borrow.Author.Needs.{needs}

@@ -1,7 +1,7 @@
 -- `reader::check_other` meets its contract, at each place. Assumes nothing.
 use Rattle.reader.proofs.Checks.{by-length, cid-kind, for-place}
 use Rattle.reader.specs.Index.{numberOf, checkKind}
-use Rattle.parameters.specs.Catalogue.{number, flag, cid, token, address, kindAt, kinds, otherKinds, fits, illegal}
+use Rattle.catalogue.specs.Catalogue.{number, flag, cid, token, address, kindAt, kinds, otherKinds, fits, illegal}
 use native.Mathlib.Omega.{arith}
 use mathlib.Core.Path.{_≡_, refl, _∙_}
 use borrow.Author.Needs.{needs}

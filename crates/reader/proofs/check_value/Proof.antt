@@ -1,7 +1,7 @@
 -- `reader::check_value` meets its contract. Assumes nothing.
 use Rattle.reader.proofs.Checks.{for-place}
-use Rattle.parameters.proofs.Places.{number-kind}
-use Rattle.parameters.specs.Catalogue.{number}
+use Rattle.catalogue.proofs.Places.{number-kind}
+use Rattle.catalogue.specs.Catalogue.{number}
 use borrow.Author.Needs.{needs}
 use Rattle.reader.proofs.check_value.Statement.{statement}
 use Rattle.reader.proofs.check_value.Tie as tie

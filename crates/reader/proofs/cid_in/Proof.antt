@@ -2,8 +2,8 @@
 use mathlib.Core.Bool.{false}
 use mathlib.Core.Path.{_≡_}
 use Rattle.reader.proofs.Built.{cid-new}
-use Rattle.parameters.specs.Values.{cidIn}
-use Rattle.parameters.proofs.Tests.{not-true, not-false}
+use Rattle.record.specs.Values.{cidIn}
+use Rattle.words.proofs.Laws.{not-true, not-false}
 use borrow.Author.Needs.{needs}
 use Rattle.reader.proofs.cid_in.Statement.{statement}
 use Rattle.reader.proofs.cid_in.Tie as tie

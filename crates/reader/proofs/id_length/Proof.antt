@@ -1,6 +1,6 @@
 -- `reader::id_length` meets its contract. Assumes nothing.
 use Rattle.reader.proofs.Built.{no-id, id-within, id-at}
-use Rattle.parameters.proofs.Tests.{not-true, not-false}
+use Rattle.words.proofs.Laws.{not-true, not-false}
 use mathlib.Core.Path.{sym, _∙_}
 use borrow.Author.Needs.{needs}
 use Rattle.reader.proofs.id_length.Statement.{statement}

@@ -1,6 +1,6 @@
 -- `reader::index` meets its contract: nothing is received at first, nor of what is refused. Assumes nothing.
 use mathlib.Core.Path.{_≡_, refl, ap, sym, _∙_, subst}
-use Rattle.parameters.specs.Catalogue.{defaults}
+use Rattle.catalogue.specs.Catalogue.{defaults}
 use Rattle.reader.specs.declared.Scanned.{Scanned}
 use Rattle.reader.specs.Answer.{scanOutcome, ScanReceived}
 use Rattle.reader.specs.Index.{admitted, initialNumbers}

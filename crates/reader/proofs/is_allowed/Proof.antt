@@ -1,8 +1,7 @@
 -- `reader::is_allowed` meets its contract: the value rules, on what the scan kept. Assumes nothing.
 use Rattle.reader.proofs.Built.{spanned, rules-built}
-use Rattle.parameters.specs.Catalogue.{address, kindAt, kinds, otherKinds}
-use Rattle.connection_id.proofs.Laws.{and-true}
-use Rattle.parameters.proofs.Tests.{not-true, not-false}
+use Rattle.catalogue.specs.Catalogue.{address, kindAt, kinds, otherKinds}
+use Rattle.words.proofs.Laws.{and-true, not-true, not-false}
 use mathlib.Core.Path.{refl, sym, _∙_}
 use borrow.Author.Needs.{needs}
 use Rattle.reader.proofs.is_allowed.Statement.{statement}

@@ -3,7 +3,7 @@ use Rattle.reader.proofs.Built.{read-stopped, read-admitted, read-recor
 use Rattle.reader.specs.Answer.{scanOutcome, ScanReceived}
 use Rattle.reader.specs.declared.Scanned.{Scanned}
 use mathlib.Core.Path.{refl, ap, sym, _∙_, subst}
-use Rattle.parameters.specs.Catalogue.{defaults}
+use Rattle.catalogue.specs.Catalogue.{defaults}
 use Rattle.reader.specs.Index.{initialNumbers}
 use borrow.Author.Needs.{needs}
 use Rattle.reader.proofs.read.Statement.{statement}

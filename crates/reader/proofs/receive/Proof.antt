@@ -1,7 +1,7 @@
 -- `reader::receive` meets its contract: a second copy first. Assumes nothing.
 use Rattle.reader.proofs.Checks.{second-copy, no-copy, repeats}
 use Rattle.reader.specs.Reading.{mayRepeat}
-use Rattle.parameters.proofs.Tests.{not-true, not-false}
+use Rattle.words.proofs.Laws.{not-true, not-false}
 use mathlib.Core.Logic.{⊎-elim}
 use mathlib.Core.Path.{sym, _∙_}
 use borrow.Author.Needs.{needs}

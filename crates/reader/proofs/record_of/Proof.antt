@@ -1,8 +1,8 @@
 -- `reader::record_of` meets its contract: field by field. Assumes nothing.
 use Rattle.reader.proofs.Built.{spanned, numbers-built, optional-built}
 use Rattle.reader.proofs.Turn.{spans-met}
-use Rattle.parameters.specs.Values.{recordOf, noReserved, noOrder}
-use Rattle.parameters.specs.Catalogue.{cid, token, address, kindAt, kinds, otherKinds, defaults}
+use Rattle.record.specs.Values.{recordOf, noReserved, noOrder}
+use Rattle.catalogue.specs.Catalogue.{cid, token, address, kindAt, kinds, otherKinds, defaults}
 use mathlib.Core.Path.{refl}
 use native.Mathlib.Omega.{arith}
 use borrow.Author.Needs.{needs}

@@ -5,7 +5,7 @@ use Rattle.reader.specs.Answer.{parameterOutcome, valueOutcome, Within}
 use Rattle.reader.specs.Index.{spans, Indexed}
 use Rattle.reader.specs.Reading.{readParameter, parse}
 use Rattle.reader.specs.declared.Parameter.{Parameter}
-use Rattle.parameters.specs.Values.{noValues}
+use Rattle.record.specs.Values.{noValues}
 use Rattle.marks.specs.Mark.{mark}
 use Rattle.refusal.specs.Outcome.{accepted}
 use borrow.Author.Tests.{lt-ltb}

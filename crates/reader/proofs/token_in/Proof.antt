@@ -1,8 +1,8 @@
 -- `reader::token_in` meets its contract. Assumes nothing.
-use Rattle.parameters.specs.Values.{tokenIn}
+use Rattle.record.specs.Values.{tokenIn}
 use mathlib.Core.Bool.{false, true}
 use mathlib.Core.Path.{_≡_}
-use Rattle.parameters.proofs.Tests.{not-true, not-false}
+use Rattle.words.proofs.Laws.{not-true, not-false}
 use Rattle.reader.proofs.token_in.Statement.{statement}
 use Rattle.reader.proofs.token_in.Tie as tie
 

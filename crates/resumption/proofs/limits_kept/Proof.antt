@@ -1,5 +1,5 @@
 -- `resumption::limits_kept` meets its contract. Assumes nothing.
-use Rattle.connection_id.proofs.Laws.{and-true}
+use Rattle.words.proofs.Laws.{and-true}
 use Rattle.resumption.specs.Resumption.{limitsKept, remembered}
 use borrow.Author.Needs.{needs}
 use Rattle.resumption.proofs.limits_kept.Statement.{statement}

@@ -1,5 +1,5 @@
 -- `resumption::nothing_reduced` meets its contract. Assumes nothing.
-use Rattle.connection_id.proofs.Laws.{and-true}
+use Rattle.words.proofs.Laws.{and-true}
 use Rattle.refusal.specs.Outcome.{all}
 use Rattle.resumption.specs.Resumption.{nothingReduced}
 use borrow.Author.Needs.{needs}

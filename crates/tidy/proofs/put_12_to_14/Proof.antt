@@ -2,7 +2,7 @@
 use borrow.Author.Needs.{needs}
 use native.Mathlib.Omega.{arith}
 use mathlib.Core.Path.{refl}
-use Rattle.parameters.specs.Catalogue.{kinds, kindAt}
+use Rattle.catalogue.specs.Catalogue.{kinds, kindAt}
 use Rattle.tidy.specs.Pieces.{longestOf, longestAt, from12}
 use Rattle.writer.proofs.Stored.{lent-room, wrote-then, wrote-three}
 use Rattle.tidy.proofs.Due.{bytewise, token-copied, flag-copied}

@@ -1,7 +1,7 @@
 -- `tidy::put_15_to_17` meets its contract. Assumes nothing.
 use borrow.Author.Needs.{needs}
 use native.Mathlib.Omega.{arith}
-use Rattle.parameters.specs.Catalogue.{kinds, kindAt}
+use Rattle.catalogue.specs.Catalogue.{kinds, kindAt}
 use Rattle.tidy.specs.Pieces.{longestOf, longestAt, from15}
 use Rattle.writer.proofs.Stored.{lent-room, wrote-then, wrote-three}
 use Rattle.tidy.proofs.Due.{bytewise, address-copied, cid-copied}

@@ -6,7 +6,7 @@ use mathlib.Core.Bool.{true}
 use mathlib.Core.List.{List, [], _∷_, _++_}
 use Prim.Native.Nat.{ℕ, _+_}
 use lib.Seq.{sets}
-use Rattle.parameters.specs.Catalogue.{parameterIf}
+use Rattle.catalogue.specs.Catalogue.{parameterIf}
 use Rattle.tidy.specs.Pieces.{numberIf}
 use lib.ListN.{length-set, length-take, length-drop}
 use borrow.Author.Tests.{not-true, not-false}

@@ -3,8 +3,8 @@ use Prim.Native.Nat.{_≤_, _-_, _*_}
 use native.Mathlib.Omega.{arith}
 use mathlib.Core.Path.{_≡_, refl}
 use lib.ListN.{length, length-take, length-drop}
-use Rattle.parameters.specs.Catalogue.{defaults}
-use Rattle.parameters.proofs.Places.{number-kind}
+use Rattle.catalogue.specs.Catalogue.{defaults}
+use Rattle.catalogue.proofs.Places.{number-kind}
 use Rattle.writer.specs.Stored.{Wrote, joined, each, numberAt}
 use Rattle.writer.proofs.Stored.{wrote-length, wrote-none}
 use Rattle.tidy.proofs.Due.{number-id, number-more}

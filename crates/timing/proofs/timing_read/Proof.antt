@@ -2,7 +2,7 @@
 use Prim.Native.Nat.{_≤_, _-_}
 use native.Mathlib.Omega.{arith}
 use mathlib.Core.Path.{_≡_, refl, ap, _∙_}
-use Rattle.parameters.specs.declared.Side.the-variants.{Client}
+use Rattle.rules.specs.declared.Side.the-variants.{Client}
 use Rattle.reader.specs.Reading.{read}
 use Rattle.timing.specs.Timing.{code, lastOf}
 use Rattle.timing.proofs.Answers.{last-more}

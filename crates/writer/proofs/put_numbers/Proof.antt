@@ -3,7 +3,7 @@ use Prim.Native.Nat.{_≤_, _-_, _*_}
 use native.Mathlib.Omega.{arith}
 use mathlib.Core.Path.{_≡_, refl, _∙_}
 use lib.ListN.{length, length-set, length-take, length-drop}
-use Rattle.parameters.specs.Catalogue.{defaults}
+use Rattle.catalogue.specs.Catalogue.{defaults}
 use Rattle.writer.specs.Stored.{Laid, each, numberAt}
 use Rattle.writer.proofs.Stored.{wrote-length}
 use Rattle.writer.proofs.Laid.{laid-none, number-more, id-short}

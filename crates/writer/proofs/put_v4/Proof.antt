@@ -2,7 +2,7 @@
 use native.Mathlib.Omega.{arith}
 use mathlib.Core.Path.{_≡_}
 use lib.ListN.{length}
-use Rattle.parameters.specs.Values.{ofV4}
+use Rattle.record.specs.Values.{ofV4}
 use Rattle.writer.proofs.Due.{family-stored}
 use borrow.Author.Needs.{needs}
 use Rattle.writer.proofs.put_v4.Statement.{statement}

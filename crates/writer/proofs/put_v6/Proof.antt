@@ -2,7 +2,7 @@
 use native.Mathlib.Omega.{arith}
 use mathlib.Core.Path.{_≡_}
 use lib.ListN.{length}
-use Rattle.parameters.specs.Values.{ofV6}
+use Rattle.record.specs.Values.{ofV6}
 use Rattle.writer.proofs.Due.{family-stored}
 use borrow.Author.Needs.{needs}
 use Rattle.writer.proofs.put_v6.Statement.{statement}

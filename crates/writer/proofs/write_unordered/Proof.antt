@@ -2,7 +2,7 @@
 use native.Mathlib.Omega.{arith}
 use mathlib.Core.Path.{ap, sym, _∙_}
 use lib.ListN.{length}
-use Rattle.writer.proofs.Orders.{in-catalogue}
+use Rattle.order.proofs.Orders.{in-catalogue}
 use Rattle.writer.proofs.Extension.{longest}
 use Rattle.writer.proofs.Answers.{stored-short, stored-whole, stored-copy, catalogue-wrote, whole-part}
 use borrow.Author.Needs.{needs}

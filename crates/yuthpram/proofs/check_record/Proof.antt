@@ -1,6 +1,6 @@
 -- `yuthpram::check_record` meets its contract. Assumes nothing.
 use mathlib.Core.Path.{ap, sym, _∙_}
-use Rattle.parameters.specs.Answer.{checkOutcome}
+use Rattle.refusal.specs.Answer.{verdictOutcome}
 use Rattle.yuthpram.proofs.Answers.{code-done, code-refused}
 use borrow.Author.Needs.{needs}
 use Rattle.yuthpram.proofs.check_record.Statement.{statement}
@@ -19,10 +19,10 @@ number-requires : tie.Need-number-requires
 number-requires c κs = search needs
 
 returns : tie.Need-returns
-returns c = code-done _ _ (sym (c .before .before .check .ensures) ∙ ap checkOutcome (c .enum-told .given .1))
+returns c = code-done _ _ (sym (c .before .before .check .ensures) ∙ ap verdictOutcome (c .enum-told .given .1))
 
 returns-2 : tie.Need-returns-2
-returns-2 c = code-refused _ _ _ (sym (c .before .before .before .before .check .ensures) ∙ ap checkOutcome (c .before .before .refusal .given .1)) (c .number .ensures)
+returns-2 c = code-refused _ _ _ (sym (c .before .before .before .before .check .ensures) ∙ ap verdictOutcome (c .before .before .refusal .given .1)) (c .number .ensures)
 
 pub check-record-spec : {M : Type 1} → statement M
 check-record-spec =

@@ -1,6 +1,6 @@
 -- `yuthpram::resume_from` meets its contract. Assumes nothing.
 use mathlib.Core.Path.{ap, sym, _∙_}
-use Rattle.resumption.specs.Answer.{resumeOutcome}
+use Rattle.refusal.specs.Answer.{verdictOutcome}
 use Rattle.yuthpram.proofs.Answers.{code-done, code-refused}
 use borrow.Author.Needs.{needs}
 use Rattle.yuthpram.proofs.resume_from.Statement.{statement}
@@ -19,10 +19,10 @@ number-requires : tie.Need-number-requires
 number-requires c κs = search needs
 
 returns : tie.Need-returns
-returns c = code-done _ _ (sym (c .before .before .validate-resumption-from .ensures) ∙ ap resumeOutcome (c .enum-told .given .1))
+returns c = code-done _ _ (sym (c .before .before .validate-resumption-from .ensures) ∙ ap verdictOutcome (c .enum-told .given .1))
 
 returns-2 : tie.Need-returns-2
-returns-2 c = code-refused _ _ _ (sym (c .before .before .before .before .validate-resumption-from .ensures) ∙ ap resumeOutcome (c .before .before .refusal .given .1)) (c .number .ensures)
+returns-2 c = code-refused _ _ _ (sym (c .before .before .before .before .validate-resumption-from .ensures) ∙ ap verdictOutcome (c .before .before .refusal .given .1)) (c .number .ensures)
 
 pub resume-from-spec : {M : Type 1} → statement M
 resume-from-spec =

@@ -1,6 +1,6 @@
 -- `yuthpram::store_cid` meets its contract. Assumes nothing.
 use mathlib.Core.Path.{ap}
-use Rattle.image.specs.Answer.{storeOutcome}
+use Rattle.refusal.specs.Answer.{countOutcome}
 use Rattle.yuthpram.specs.Interface.{cidStore}
 use Rattle.yuthpram.proofs.Answers.{cid-counted, cid-not}
 use borrow.Author.Needs.{needs}
@@ -24,14 +24,14 @@ same-length c = search needs
 
 returns : tie.Need-returns
 unfolding cidStore
-returns c = cid-counted _ _ _ (c .before .before .before .before .cid-to .ensures) _ _ _ (ap storeOutcome (c .enum-told .given .1))
+returns c = cid-counted _ _ _ (c .before .before .before .before .cid-to .ensures) _ _ _ (ap countOutcome (c .enum-told .given .1))
 
 same-length-2 : tie.Need-same-length-2
 same-length-2 c = search needs
 
 returns-2 : tie.Need-returns-2
 unfolding cidStore
-returns-2 c = cid-not _ _ _ (c .before .before .before .before .before .before .cid-to .ensures) _ _ _ _ (ap storeOutcome (c .before .before .refusal .given .1)) (c .number .ensures)
+returns-2 c = cid-not _ _ _ (c .before .before .before .before .before .before .cid-to .ensures) _ _ _ _ (ap countOutcome (c .before .before .refusal .given .1)) (c .number .ensures)
 
 pub store-cid-spec : {M : Type 1} → statement M
 store-cid-spec =

@@ -1,6 +1,6 @@
 -- `yuthpram::store_record` meets its contract. Assumes nothing.
 use mathlib.Core.Path.{ap}
-use Rattle.image.specs.Answer.{storeOutcome}
+use Rattle.refusal.specs.Answer.{countOutcome}
 use Rattle.yuthpram.specs.Interface.{recordStore}
 use Rattle.yuthpram.proofs.Answers.{coded-done, coded-refused}
 use borrow.Author.Needs.{needs}
@@ -24,14 +24,14 @@ same-length c = search needs
 
 returns : tie.Need-returns
 unfolding recordStore
-returns c = coded-done _ _ _ (c .before .before .before .before .image-to .ensures) _ (ap storeOutcome (c .enum-told .given .1))
+returns c = coded-done _ _ _ (c .before .before .before .before .image-to .ensures) _ (ap countOutcome (c .enum-told .given .1))
 
 same-length-2 : tie.Need-same-length-2
 same-length-2 c = search needs
 
 returns-2 : tie.Need-returns-2
 unfolding recordStore
-returns-2 c = coded-refused _ _ _ (c .before .before .before .before .before .before .image-to .ensures) _ _ (ap storeOutcome (c .before .before .refusal .given .1)) (c .number .ensures)
+returns-2 c = coded-refused _ _ _ (c .before .before .before .before .before .before .image-to .ensures) _ _ (ap countOutcome (c .before .before .refusal .given .1)) (c .number .ensures)
 
 pub store-record-spec : {M : Type 1} → statement M
 store-record-spec =

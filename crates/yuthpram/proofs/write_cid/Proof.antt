@@ -1,6 +1,6 @@
 -- `yuthpram::write_cid` meets its contract. Assumes nothing.
 use mathlib.Core.Path.{ap}
-use Rattle.connection_id.specs.Answer.{countOutcome}
+use Rattle.refusal.specs.Answer.{countOutcome}
 use Rattle.yuthpram.proofs.Answers.{counted-done, counted-refused}
 use borrow.Author.Needs.{needs}
 use Rattle.yuthpram.proofs.write_cid.Statement.{statement}

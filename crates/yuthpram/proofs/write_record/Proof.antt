@@ -1,6 +1,6 @@
 -- `yuthpram::write_record` meets its contract. Assumes nothing.
 use mathlib.Core.Path.{ap}
-use Rattle.writer.specs.Answer.{writeOutcome}
+use Rattle.refusal.specs.Answer.{countOutcome}
 use Rattle.yuthpram.proofs.Answers.{counted-done, counted-refused}
 use borrow.Author.Needs.{needs}
 use Rattle.yuthpram.proofs.write_record.Statement.{statement}
@@ -22,13 +22,13 @@ same-length : tie.Need-same-length
 same-length c = search needs
 
 returns : tie.Need-returns
-returns c = counted-done _ _ _ (c .before .before .before .before .before .write .ensures) _ _ (ap writeOutcome (c .before .n .given .1))
+returns c = counted-done _ _ _ (c .before .before .before .before .before .write .ensures) _ _ (ap countOutcome (c .before .n .given .1))
 
 same-length-2 : tie.Need-same-length-2
 same-length-2 c = search needs
 
 returns-2 : tie.Need-returns-2
-returns-2 c = counted-refused _ _ _ (c .before .before .before .before .before .before .write .ensures) _ _ _ (ap writeOutcome (c .before .before .refusal .given .1)) (c .number .ensures)
+returns-2 c = counted-refused _ _ _ (c .before .before .before .before .before .before .write .ensures) _ _ _ (ap countOutcome (c .before .before .refusal .given .1)) (c .number .ensures)
 
 pub write-record-spec : {M : Type 1} → statement M
 write-record-spec =

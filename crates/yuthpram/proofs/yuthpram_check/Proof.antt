@@ -1,5 +1,5 @@
 -- `yuthpram::yuthpram_check` meets its contract. Assumes nothing.
-use Rattle.parameters.specs.Record.{checkRecord}
+use Rattle.rules.specs.Rules.{checkRecord}
 use Rattle.yuthpram.specs.Interface.{sideOf, recordCheck}
 use Rattle.yuthpram.proofs.Answers.{then-code, then-refused, record-in, record-out}
 use borrow.Author.Needs.{needs}

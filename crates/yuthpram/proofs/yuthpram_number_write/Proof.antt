@@ -1,6 +1,6 @@
 -- `yuthpram::yuthpram_number_write` meets its contract. Assumes nothing.
 use mathlib.Core.Path.{ap}
-use Rattle.varint.specs.Answer.{writeOutcome}
+use Rattle.refusal.specs.Answer.{countOutcome}
 use Rattle.yuthpram.specs.Interface.{numberWrite}
 use Rattle.yuthpram.proofs.Answers.{counted-done, counted-refused}
 use borrow.Author.Needs.{needs}
@@ -24,14 +24,14 @@ same-length c = search needs
 
 returns : tie.Need-returns
 unfolding numberWrite
-returns c = counted-done _ _ _ (c .before .before .before .before .before .encode .ensures) _ _ (ap writeOutcome (c .before .n .given .1))
+returns c = counted-done _ _ _ (c .before .before .before .before .before .encode .ensures) _ _ (ap countOutcome (c .before .n .given .1))
 
 same-length-2 : tie.Need-same-length-2
 same-length-2 c = search needs
 
 returns-2 : tie.Need-returns-2
 unfolding numberWrite
-returns-2 c = counted-refused _ _ _ (c .before .before .before .before .before .before .encode .ensures) _ _ _ (ap writeOutcome (c .before .before .refusal .given .1)) (c .number .ensures)
+returns-2 c = counted-refused _ _ _ (c .before .before .before .before .before .before .encode .ensures) _ _ _ (ap countOutcome (c .before .before .refusal .given .1)) (c .number .ensures)
 
 pub yuthpram-number-write-spec : {M : Type 1} → statement M
 yuthpram-number-write-spec =

@@ -1,6 +1,6 @@
 -- `yuthpram::yuthpram_tidy` meets its contract. Assumes nothing.
 use mathlib.Core.Path.{ap}
-use Rattle.tidy.specs.Answer.{tidyOutcome}
+use Rattle.refusal.specs.Answer.{countOutcome}
 use Rattle.yuthpram.specs.Interface.{tidied}
 use Rattle.yuthpram.proofs.Answers.{counted-done, counted-refused}
 use borrow.Author.Needs.{needs}
@@ -27,14 +27,14 @@ same-length c = search needs
 
 returns : tie.Need-returns
 unfolding tidied
-returns c = rw (← c .before .before .before .before .before .before .before .side-of .ensures) (counted-done _ _ _ (c .before .before .before .before .before .tidy .ensures) _ _ (ap tidyOutcome (c .before .n .given .1)))
+returns c = rw (← c .before .before .before .before .before .before .before .side-of .ensures) (counted-done _ _ _ (c .before .before .before .before .before .tidy .ensures) _ _ (ap countOutcome (c .before .n .given .1)))
 
 same-length-2 : tie.Need-same-length-2
 same-length-2 c = search needs
 
 returns-2 : tie.Need-returns-2
 unfolding tidied
-returns-2 c = rw (← c .before .before .before .before .before .before .before .before .side-of .ensures) (counted-refused _ _ _ (c .before .before .before .before .before .before .tidy .ensures) _ _ _ (ap tidyOutcome (c .before .before .refusal .given .1)) (c .number .ensures))
+returns-2 c = rw (← c .before .before .before .before .before .before .before .before .side-of .ensures) (counted-refused _ _ _ (c .before .before .before .before .before .before .tidy .ensures) _ _ _ (ap countOutcome (c .before .before .refusal .given .1)) (c .number .ensures))
 
 pub yuthpram-tidy-spec : {M : Type 1} → statement M
 yuthpram-tidy-spec =

@@ -2,6 +2,7 @@
 use borrow.Author.Needs.{needs}
 use mathlib.Core.Path.{_≡_}
 use lib.ListN.{length}
+use Rattle.words.proofs.Laws.{whole-array}
 use Rattle.connection_id.proofs.Answers.{formed-long, formed-rest}
 use Rattle.connection_id.proofs.ConnectionId.is_well_formed.Statement.{statement}
 use Rattle.connection_id.proofs.ConnectionId.is_well_formed.Tie as tie
@@ -15,11 +16,11 @@ cast-n c = search needs
 returns : tie.Need-returns
 returns c = formed-long _ (known (c .before .before)) (c .if1 .taken)
 
-zeros-from-requires : tie.Need-zeros-from-requires
-zeros-from-requires c κs = search needs
+zero20-from-requires : tie.Need-zero20-from-requires
+zero20-from-requires c κs = search needs
 
 returns-2 : tie.Need-returns-2
-returns-2 c = formed-rest (c .before .before .before .before .before .args .self) _ (known (c .before .before .before .before .before)) (c .before .before .before .if1 .left) (c .zeros-from .ensures)
+returns-2 c = formed-rest (c .before .before .before .before .before .args .self) _ (known (c .before .before .before .before .before)) (c .before .before .before .if1 .left) (rw (whole-array 20 (c .before .before .before .before .before .args .self .bytes) (known (c .before .before .before .before .before))) at (c .zero20-from .ensures))
 
 pub is-well-formed-spec : {M : Type 1} → statement M
-is-well-formed-spec = tie.close (tie.spec cast-n returns zeros-from-requires returns-2)
+is-well-formed-spec = tie.close (tie.spec cast-n returns zero20-from-requires returns-2)

@@ -24,7 +24,7 @@ returns-2 c =
     let s = b .args .src .now in
     let h : 0 < length s = omega arith in
     let e : 0 ≡ getD s 0 0 / 64 = omega arith in
-    ap (λ v. accepted (v, 1)) (c .wide .ensures ∙ omega arith) ∙ sym (read-whole s 0 h e h 0 refl)
+    ap (λ v. accepted (v, 1)) (c .wide .ensures .0 ∙ omega arith) ∙ sym (read-whole s 0 h e h 0 refl)
 
 decode-longer-requires : tie.Need-decode-longer-requires
 decode-longer-requires c κs = search needs

@@ -12,14 +12,14 @@ returns : tie.Need-returns
 unfolding writeNumber
 returns c = simp (le-ltb _ _ (c .if1 .taken))
 
-size-requires : tie.Need-size-requires
-size-requires c κs = search needs
+size-of-requires : tie.Need-size-of-requires
+size-of-requires c κs = search needs
 
 returns-2 : tie.Need-returns-2
 unfolding writeNumber store
 returns-2 c =
     let v : c .before .before .before .before .before .args .self .0 < 2 ^ 62 = omega arith in
-    let h = rw (c .before .size .ensures) at (c .if2 .taken) in
+    let h = rw (c .before .size-of .ensures) at (c .if2 .taken) in
     simp (lt-ltb _ _ v, lt-leb _ _ h)
 
 put-requires : tie.Need-put-requires
@@ -33,10 +33,10 @@ unfolding writeNumber store
 returns-3 c =
     let b = c .before .before .before .before in
     let v : b .before .before .before .before .before .args .self .0 < 2 ^ 62 = omega arith in
-    let h = rw (b .before .size .ensures) at (b .if2 .left) in
+    let h = rw (b .before .size-of .ensures) at (b .if2 .left) in
     let p = c .before .before .put .ensures in
     simp (lt-ltb _ _ v, le-leb _ _ h, p .0, p .1)
 
 pub encode-spec : {M : Type 1} → statement M
 encode-spec =
-    tie.close (tie.spec returns size-requires returns-2 put-requires same-length returns-3)
+    tie.close (tie.spec returns size-of-requires returns-2 put-requires same-length returns-3)

@@ -1,4 +1,0 @@
-pub mod Catalogue
-pub mod Values
-pub mod Record
-pub mod Answer

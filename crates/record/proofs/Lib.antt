@@ -1,0 +1,5 @@
+pub mod Bytes
+pub mod KindLaws
+pub mod Address
+pub mod Records
+pub mod Tests

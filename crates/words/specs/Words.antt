@@ -1,0 +1,37 @@
+-- Words that several crates' definitions use.
+use Prim.Native.Nat.{ℕ, zero, suc, _+_, _*_, _^_, _<_}
+use mathlib.Core.Path.{_≡_}
+use mathlib.Core.Bool.{Bool, true, _&&_}
+use mathlib.Core.List.{List, [], _∷_}
+use lib.ListN.{length, getD}
+use lib.Dec.{eqb, ltb}
+
+-- every element passes
+abbrev pub every : (ℕ → Bool) → List ℕ → Bool
+every f [] = true
+every f (x ∷ xs) = f x && every f xs
+
+-- every byte is zero
+abbrev pub zeros : List ℕ → Bool
+zeros [] = true
+zeros (b ∷ bs) = eqb b 0 && zeros bs
+
+-- the number that the bytes make, low byte first
+abbrev pub wordOf : List ℕ → ℕ
+wordOf [] = 0
+wordOf (b ∷ bs) = b + 256 * wordOf bs
+
+-- each is below 256, as a byte's type says
+abbrev pub bytewise : List ℕ → Bool
+bytewise bs = every (λ b. ltb b 256) bs
+
+-- r is the number that the bytes make
+pub record Word (bs : List ℕ) (r : ℕ) : Type 0 where
+  pub is : r ≡ wordOf bs
+  pub low : bytewise bs ≡ true
+  pub small : r < 256 ^ length bs
+
+-- n elements from place i on, 0 where there is none
+unfoldable pub elements : ℕ → ℕ → List ℕ → List ℕ
+elements zero i s = []
+elements (suc n) i s = getD s i 0 ∷ elements n (suc i) s

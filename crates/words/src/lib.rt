@@ -1,0 +1,108 @@
+// Small functions that several crates use: both and either of two tests, the smaller of two numbers, bytes as words, and tests for zeros.
+ghost use mathlib.Core.Path.{_≡_};
+ghost use mathlib.Core.List.{[], _∷_};
+ghost use mathlib.Core.Bool.{_&&_, _||_};
+ghost use Prim.Native.Nat.{_+_, _*_, _/_, _^_, _<_};
+ghost use lib.Dec.{leb, eqb};
+ghost use lib.ListN.{drop};
+ghost use Rattle.refusal.specs.Outcome.{pick};
+ghost use Rattle.words.specs.Words.{zeros, Word, elements};
+
+pub fn and(a: bool, b: bool) -> bool
+    ensures { λ r. ⌜ r ≡ (a && b) ⌝ }
+{
+    if a { b } else { false }
+}
+
+pub fn or(a: bool, b: bool) -> bool
+    ensures { λ r. ⌜ r ≡ (a || b) ⌝ }
+{
+    if a { true } else { b }
+}
+
+pub fn minimum(a: u64, b: u64) -> u64
+    ensures { λ r. ⌜ r ≡ pick (leb a b) a b ⌝ }
+{
+    if a <= b { a } else { b }
+}
+
+pub fn wide(x: u8) -> u64
+    ensures { λ r. ⌜ (r ≡ x) × (r < 256) ⌝ }
+{
+    x as u64
+}
+
+// Bytes as a number, low byte first. The compiler makes one load of them.
+pub fn word2(a: u8, b: u8) -> u64
+    ensures { λ r. ⌜ Word (a ∷ b ∷ []) r ⌝ }
+{
+    (wide(b) << 8) | wide(a)
+}
+
+pub fn word4(a: u8, b: u8, c: u8, d: u8) -> u64
+    ensures { λ r. ⌜ Word (a ∷ b ∷ c ∷ d ∷ []) r ⌝ }
+{
+    (word2(c, d) << 16) | word2(a, b)
+}
+
+pub fn word8(a: u8, b: u8, c: u8, d: u8, e: u8, f: u8, g: u8, h: u8) -> u64
+    ensures { λ r. ⌜ Word (a ∷ b ∷ c ∷ d ∷ e ∷ f ∷ g ∷ h ∷ []) r ⌝ }
+{
+    (word4(e, f, g, h) << 32) | word4(a, b, c, d)
+}
+
+// Whether 24 bytes, eight to a word, are zero from byte `n` on.
+pub fn zero_from(u: u64, v: u64, w: u64, n: usize) -> bool
+    ensures { λ r. ⌜ r ≡ eqb ((u + 2 ^ 64 * (v + 2 ^ 64 * w)) / 2 ^ (8 * n)) 0 ⌝ }
+{
+    if n < 8 {
+        let k = (8 * n) as u32;
+        return (u >> k) | (v | w) == 0;
+    }
+    if n < 16 {
+        let k = (8 * (n - 8)) as u32;
+        return (v >> k) | w == 0;
+    }
+    if n < 24 {
+        let k = (8 * (n - 16)) as u32;
+        return w >> k == 0;
+    }
+    true
+}
+
+// Whether the bytes of an array are zero from byte `n` on.
+pub fn zero20_from(b: &[u8; 20], n: usize) -> bool
+    ensures { λ r. ⌜ r ≡ zeros (drop n (elements 20 0 (now (b .entry)))) ⌝ }
+{
+    let u = word8(b[0], b[1], b[2], b[3], b[4], b[5], b[6], b[7]);
+    let v = word8(b[8], b[9], b[10], b[11], b[12], b[13], b[14], b[15]);
+    let w = word4(b[16], b[17], b[18], b[19]);
+    zero_from(u, v, w, n)
+}
+
+pub fn zero16_from(b: &[u8; 16], n: usize) -> bool
+    ensures { λ r. ⌜ r ≡ zeros (drop n (elements 16 0 (now (b .entry)))) ⌝ }
+{
+    let u = word8(b[0], b[1], b[2], b[3], b[4], b[5], b[6], b[7]);
+    let v = word8(b[8], b[9], b[10], b[11], b[12], b[13], b[14], b[15]);
+    zero_from(u, v, 0, n)
+}
+
+pub fn zero4(b: &[u8; 4]) -> bool
+    ensures { λ r. ⌜ r ≡ zeros (elements 4 0 (now (b .entry))) ⌝ }
+{
+    word4(b[0], b[1], b[2], b[3]) == 0
+}
+
+// Whether all bytes are zero.
+pub fn all_zero(v: &[u8]) -> bool
+    ensures { λ r. ⌜ r ≡ zeros (now (v .entry)) ⌝ }
+{
+    let mut acc: u8 = 0;
+    let mut i: usize = 0;
+    while i < v.len() {
+        acc = acc | v[i];
+        i += 1;
+    }
+    acc == 0
+}
