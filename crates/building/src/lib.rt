@@ -14,10 +14,10 @@ use connection_id::ConnectionId;
 use record::OptionalConnectionId;
 use record::OptionalNumber;
 use record::ReservedTransportParameter;
-use rules::Side;
 use record::TransportParameters;
 use record::WriteOrder;
 use refusal::Refusal;
+use rules::Side;
 use varint::VarInt;
 
 // What `new` takes from the configurations of the transport, the endpoint and the server, and from the generator of connection IDs.

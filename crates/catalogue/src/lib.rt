@@ -54,6 +54,13 @@ pub const GREASE_QUIC_BIT: usize = 19;
 
 pub const MIN_ACK_DELAY: usize = 20;
 
+// The places of the kinds that more than one has, a bit for each.
+pub const NUMBER_PLACES: u32 = 0x1047ff;
+
+pub const FLAG_PLACES: u32 = 0x82000;
+
+pub const CID_PLACES: u32 = 0x70000;
+
 // Their names, each in a column of the same width.
 pub const NAME_WIDTH: usize = 36;
 

@@ -20,4 +20,3 @@ permutation os = all (eqb (length os) places ∷ distinct os ∷ [])
 
 unfoldable pub catalogueOrder : List ℕ
 catalogueOrder = 0 ∷ 1 ∷ 2 ∷ 3 ∷ 4 ∷ 5 ∷ 6 ∷ 7 ∷ 8 ∷ 9 ∷ 10 ∷ 11 ∷ 12 ∷ 13 ∷ 14 ∷ 15 ∷ 16 ∷ 17 ∷ 18 ∷ 19 ∷ 20 ∷ []
-

@@ -14,19 +14,19 @@ ghost use Rattle.reader.specs.Reading.{mayRepeat, readParameter, parse, 
 ghost use Rattle.reader.specs.Index.{admitted, spans, checkKind, checkValue, receiveValue, initialNumbers, Spanned, Received};
 ghost use Rattle.reader.specs.Answer.{parameterOutcome, Within, valueOutcome, scanOutcome, ScanIndexed, ScanReceived, IndexSettled, scannedIf, readOutcome, settled, refusedWith, refusedReading, judged};
 use connection_id::ConnectionId;
-use rules::Microseconds;
 use record::OptionalConnectionId;
 use record::OptionalNumber;
 use record::OptionalResetToken;
 use record::PreferredAddress;
 use record::ReservedTransportParameter;
 use record::ResetToken;
-use rules::Side;
 use record::SocketAddrV4;
 use record::SocketAddrV6;
 use record::TransportParameters;
 use record::WriteOrder;
 use refusal::Refusal;
+use rules::Microseconds;
+use rules::Side;
 use varint::Decoded;
 use varint::VarInt;
 

@@ -18,9 +18,9 @@ use varint::VarInt;
 use words::all_zero;
 use words::and;
 use words::or;
+use words::zero4;
 use words::zero16_from;
 use words::zero20_from;
-use words::zero4;
 
 // A number that may be missing: 0 is not the same as absent.
 pub enum OptionalNumber {

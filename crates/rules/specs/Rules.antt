@@ -51,4 +51,3 @@ legal s r = all (wellFormed r ∷ familyRules (r .«preferred_address») ∷ val
 -- checking a record for a side: 7, then 2
 unfoldable pub checkRecord : Side → TransportParameters → Outcome (Unit {0})
 checkRecord s r = pick (wellFormed r) (pick (legal s r) (accepted tt) (refused 2)) (refused 7)
-

@@ -13,10 +13,10 @@ ghost use Rattle.writer.specs.Stored.{Wrote, joined, each, numberAt};
 ghost use Rattle.tidy.specs.Tidying.{tidy};
 ghost use Rattle.refusal.specs.Answer.{countOutcome};
 ghost use Rattle.tidy.specs.Pieces.{ifDue, numberIf, longestAt, Bytewise, LowNumbers, Kept, from12, from15, from18, pieces};
-use rules::Side;
 use reader::Scanned;
-use refusal::Refusal;
 use refusal::Counted;
+use refusal::Refusal;
+use rules::Side;
 use varint::VarInt;
 
 // What tidying gives: how many bytes it stored.

@@ -8,8 +8,8 @@ ghost use Rattle.tidy.specs.Tidying.{tidy};
 ghost use Rattle.image.specs.Image.{recordFrom};
 ghost use Rattle.reader.specs.Answer.{recordIn};
 ghost use Rattle.timing.specs.Timing.{code, lastOf, counted, again, repeat, writtenFrom};
-use rules::Side;
 use record::TransportParameters;
+use rules::Side;
 use tidy::Tidied;
 use writer::Written;
 

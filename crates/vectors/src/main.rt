@@ -3,9 +3,9 @@ use connection_id::CidAnswer;
 use connection_id::ConnectionId;
 use connection_id::DecodedCid;
 use libc::STDOUT_FILENO;
+use refusal::Counted;
 use refusal::Refusal;
 use varint::Decoded;
-use refusal::Counted;
 use varint::VarInt;
 
 fn show(name: &[u8], ok: bool) {

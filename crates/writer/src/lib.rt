@@ -24,8 +24,8 @@ use record::ResetToken;
 use record::SocketAddrV4;
 use record::SocketAddrV6;
 use record::TransportParameters;
-use refusal::Refusal;
 use refusal::Counted;
+use refusal::Refusal;
 use varint::VarInt;
 
 // No extension is longer.

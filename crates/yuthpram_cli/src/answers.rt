@@ -8,12 +8,12 @@ use crate::out::say_hex;
 use crate::out::say_number;
 use crate::show;
 use parameters::Checked;
-use rules::Side;
-use record::TransportParameters;
 use reader::Answer;
+use record::TransportParameters;
+use refusal::Counted;
+use rules::Side;
 use tidy::Tidied;
 use varint::Decoded;
-use refusal::Counted;
 use varint::VarInt;
 use writer::Written;
 

@@ -5,9 +5,9 @@ use crate::names;
 use crate::out::say;
 use crate::out::say_identifier;
 use crate::out::say_number;
-use rules::Side;
 use reader::Answer;
 use refusal::Refusal;
+use rules::Side;
 use varint::Decoded;
 use varint::VarInt;
 

@@ -1,0 +1,3 @@
+pub mod Parameter
+pub mod Answer
+pub mod Whole

@@ -1,0 +1,23 @@
+-- Extensions put together from whole parameters.
+use Prim.Native.Nat.{ℕ, _≤_}
+use mathlib.Core.Path.{_≡_}
+use mathlib.Core.List.{List, [], _∷_, _++_}
+use Rattle.refusal.specs.Outcome.{accepted}
+use Rattle.catalogue.specs.Catalogue.{places, placeOf}
+use Rattle.front.specs.Parameter.{readParameter}
+
+-- bytes that are one parameter, with nothing behind it
+pub record Whole (w : List ℕ) : Type 0 where
+  pub id : ℕ
+  pub v : List ℕ
+  pub is : readParameter w ≡ accepted (id, v, [])
+
+abbrev pub concat : List (List ℕ) → List ℕ
+concat [] = []
+concat (w ∷ ws) = w ++ concat ws
+
+-- whole parameters, and the same with unknown ones put in anywhere
+pub data Inserted : List (List ℕ) → List (List ℕ) → Type 0 where
+  done : Inserted [] []
+  same : {w : List ℕ} {ws ws′ : List (List ℕ)} → Whole w → Inserted ws ws′ → Inserted (w ∷ ws) (w ∷ ws′)
+  unknown : {w : List ℕ} {ws ws′ : List (List ℕ)} (h : Whole w) → places ≤ placeOf (h .id) → Inserted ws ws′ → Inserted ws (w ∷ ws′)

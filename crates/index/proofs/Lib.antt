@@ -1,0 +1,3 @@
+pub mod Turn
+pub mod Sound
+pub mod Settled
