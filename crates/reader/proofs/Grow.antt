@@ -17,10 +17,12 @@ use Rattle.catalogue.proofs.Sums.{sum, but, sum-eq, sum-but}
 use Rattle.record.proofs.KindLaws.{Fits, IfSome}
 use Rattle.catalogue.proofs.Places.{id-of-place}
 use Rattle.record.proofs.Records.{Good, sizeAt}
-use Rattle.reader.specs.declared.Fault.{Fault}
-use Rattle.reader.specs.declared.Fault.the-variants.{SecondCopy, Misfit, Illegal}
-use Rattle.reader.specs.Reading.{mayRepeat, readParameter, receive, step, parseIn, parse}
-use Rattle.reader.proofs.Front.{sized}
+use Rattle.front.specs.declared.Fault.{Fault}
+use Rattle.front.specs.declared.Fault.the-variants.{SecondCopy, Misfit, Illegal}
+use Rattle.front.specs.Parameter.{readParameter}
+use Rattle.value.specs.Value.{mayRepeat}
+use Rattle.reader.specs.Reading.{receive, step, parseIn, parse}
+use Rattle.reader.proofs.Sized.{sized}
 
 -- the bytes of the values of all places, in their shortest form
 unfoldable pub total : Values → ℕ

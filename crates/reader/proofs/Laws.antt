@@ -18,10 +18,11 @@ use Rattle.record.specs.Values.{Bytes, Values, noValues, recordOf}
 use Rattle.rules.specs.Rules.{valueRules, legal}
 use Rattle.record.specs.Record.{wellFormed, familyRules, bare}
 use Rattle.record.proofs.Records.{formed, families}
-use Rattle.reader.specs.declared.Fault.{Fault}
-use Rattle.reader.specs.declared.Fault.the-variants.{Illegal}
-use Rattle.reader.specs.Reading.{numbered, step, parse, judge, read}
-use Rattle.reader.specs.Whole.{Whole, Inserted, concat}
+use Rattle.front.specs.declared.Fault.{Fault}
+use Rattle.front.specs.declared.Fault.the-variants.{Illegal}
+use Rattle.front.specs.Answer.{numbered}
+use Rattle.reader.specs.Reading.{step, parse, judge, read}
+use Rattle.front.specs.Whole.{Whole, Inserted, concat}
 use Rattle.reader.proofs.Run.{parse-nil, parse-whole, skipped}
 use Rattle.reader.proofs.Grow.{grown}
 

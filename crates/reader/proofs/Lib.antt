@@ -1,7 +1,7 @@
-pub mod Front
+pub mod Sized
 pub mod Run
 pub mod Grow
 pub mod Laws
-pub mod Checks
-pub mod Turn
 pub mod Built
+pub mod Agree
+pub mod Indexed

@@ -17,10 +17,11 @@ use borrow.Author.Tests.{le-ltb, eqb-true, eqb-false}
 use Rattle.refusal.specs.Outcome.{Result, accepted, refused, pick, andThen}
 use Rattle.catalogue.specs.Catalogue.{places, placeOf}
 use Rattle.record.specs.Values.{Values, upd}
-use Rattle.reader.specs.declared.Fault.{Fault}
-use Rattle.reader.specs.Reading.{readParameter, step, parseIn, parse}
-use Rattle.reader.specs.Whole.{Inserted, done, same, unknown, concat}
-use Rattle.reader.proofs.Front.{shorter, front-append}
+use Rattle.front.specs.declared.Fault.{Fault}
+use Rattle.front.specs.Parameter.{readParameter}
+use Rattle.reader.specs.Reading.{step, parseIn, parse}
+use Rattle.front.specs.Whole.{Inserted, done, same, unknown, concat}
+use Rattle.front.proofs.Front.{shorter, front-append}
 
 fuel : (f g : ℕ) (l : Values) (bs : List ℕ) → length bs ≤ f → length bs ≤ g → parseIn f l bs ≡ parseIn g l bs
 fuel zero zero l bs hf hg = refl

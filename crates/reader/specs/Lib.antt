@@ -1,4 +1,2 @@
 pub mod Reading
-pub mod Whole
-pub mod Index
-pub mod Answer
+pub mod Kept

@@ -3,47 +3,20 @@
 use Prim.Native.Nat.{ℕ, zero, suc}
 use mathlib.Core.List.{List, [], _∷_}
 use mathlib.Core.Option.{some}
-use mathlib.Core.Bool.{Bool, _&&_, _||_, not}
-use lib.ListN.{length, take, drop}
-use lib.Dec.{ltb, leb, eqb}
+use mathlib.Core.Bool.{_&&_, not}
+use lib.ListN.{length}
+use lib.Dec.{ltb}
 use Rattle.refusal.specs.Outcome.{Result, accepted, refused, Outcome, pick, andThen}
-use Rattle.varint.specs.Number.{readNumber}
-use Rattle.record.specs.declared.TransportParameters.{TransportParameters}
-use Rattle.rules.specs.declared.Side.{Side}
 use Rattle.catalogue.specs.Catalogue.{places, kindAt, placeOf, fits, illegal}
+use Rattle.record.specs.declared.TransportParameters.{TransportParameters}
 use Rattle.record.specs.Values.{Values, noValues, isSome, upd, recordOf}
+use Rattle.rules.specs.declared.Side.{Side}
 use Rattle.rules.specs.Rules.{valueRules}
-use Rattle.reader.specs.declared.Fault.{Fault}
-use Rattle.reader.specs.declared.Fault.the-variants.{Cut, SecondCopy, Misfit, Illegal}
-
--- the number that a fault is refused with: 1 is Malformed, 2 IllegalValue
-unfoldable pub faultNumber : Fault → ℕ
-faultNumber Cut = 1
-faultNumber SecondCopy = 1
-faultNumber Misfit = 1
-faultNumber Illegal = 2
-
-abbrev pub numbered : {A : Type 0} → Result Fault A → Outcome A
-numbered (accepted a) = accepted a
-numbered (refused f) = refused (faultNumber f)
-
--- grease_quic_bit may repeat, and the last min_ack_delay counts
-unfoldable pub mayRepeat : ℕ → Bool
-mayRepeat p = eqb p 19 || eqb p 20
-
--- a number that cannot be read cuts the parameter off
-abbrev pub orCut : {A : Type 0} → Outcome A → Result Fault A
-orCut (accepted a) = accepted a
-orCut (refused e) = refused Cut
-
--- the parameter at the front: its identifier, its value and what is behind it
-unfoldable pub readParameter : List ℕ → Result Fault (ℕ × List ℕ × List ℕ)
-readParameter bs =
-    andThen (orCut (readNumber bs)) λ i.
-    andThen (orCut (readNumber (drop (i .1) bs))) λ l.
-    pick (leb (l .0) (length (drop (l .1) (drop (i .1) bs))))
-    (accepted (i .0, take (l .0) (drop (l .1) (drop (i .1) bs)), drop (l .0) (drop (l .1) (drop (i .1) bs))))
-    (refused Cut)
+use Rattle.front.specs.declared.Fault.{Fault}
+use Rattle.front.specs.declared.Fault.the-variants.{Cut, SecondCopy, Misfit, Illegal}
+use Rattle.front.specs.Parameter.{readParameter}
+use Rattle.front.specs.Answer.{numbered}
+use Rattle.value.specs.Value.{mayRepeat}
 
 -- a value for a known place: a second copy, then a value that is illegal, then one that does not fit
 unfoldable pub receive : Values → ℕ → List ℕ → Result Fault Values

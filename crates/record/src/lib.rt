@@ -9,7 +9,8 @@ ghost use Rattle.words.specs.Words.{every, zeros};
 ghost use Rattle.varint.specs.Number.{bound};
 ghost use Rattle.connection_id.specs.ConnectionId.{formedCid};
 ghost use Rattle.record.specs.Record.{isPresent, least, unspecified, formedOptional, formedOptionalCid, formedOptionalToken, formedFamily, formedAddress, formedReserved, formedOrder, wellFormed, defaultRecord};
-ghost use Rattle.record.specs.Values.{ofV4, ofV6};
+ghost use mathlib.Core.Option.{none};
+ghost use Rattle.record.specs.Values.{ofV4, ofV6, cidIn, tokenIn, addressIn, noReserved, noOrder};
 ghost use Rattle.record.specs.Fields.{cidFrom, optionalCid, optionalToken, reservedFrom, orderFrom};
 use catalogue::NUMBERS;
 use catalogue::PLACES;
@@ -138,8 +139,74 @@ impl ResetToken {
     pub const SIZE: usize = 16;
 }
 
+impl OptionalConnectionId {
+    pub fn absent() -> OptionalConnectionId
+        ensures { λ r. ⌜ r ≡ cidIn none ⌝ }
+    {
+        OptionalConnectionId {
+            present: false,
+            cid: ConnectionId::empty(),
+        }
+    }
+}
+
+impl OptionalResetToken {
+    pub fn absent() -> OptionalResetToken
+        ensures { λ r. ⌜ r ≡ tokenIn none ⌝ }
+    {
+        OptionalResetToken {
+            present: false,
+            token: ResetToken { bytes: [0; 16] },
+        }
+    }
+}
+
+impl PreferredAddress {
+    pub fn absent() -> PreferredAddress
+        ensures { λ r. ⌜ r ≡ addressIn none ⌝ }
+    {
+        PreferredAddress {
+            present: false,
+            address_v4: SocketAddrV4 {
+                present: false,
+                ip: [0; 4],
+                port: 0,
+            },
+            address_v6: SocketAddrV6 {
+                present: false,
+                ip: [0; 16],
+                port: 0,
+            },
+            connection_id: ConnectionId::empty(),
+            stateless_reset_token: ResetToken { bytes: [0; 16] },
+        }
+    }
+}
+
 impl ReservedTransportParameter {
     pub const MAX_PAYLOAD_LEN: usize = 16;
+
+    pub fn absent() -> ReservedTransportParameter
+        ensures { λ r. ⌜ r ≡ noReserved ⌝ }
+    {
+        ReservedTransportParameter {
+            present: false,
+            id: 0,
+            payload: [0; 16],
+            payload_len: 0,
+        }
+    }
+}
+
+impl WriteOrder {
+    pub fn absent() -> WriteOrder
+        ensures { λ r. ⌜ r ≡ noOrder ⌝ }
+    {
+        WriteOrder {
+            present: false,
+            places: [0; PLACES],
+        }
+    }
 }
 
 fn formed_numbers(n: &[u64; NUMBERS]) -> bool
@@ -239,55 +306,19 @@ impl TransportParameters {
     pub fn default() -> TransportParameters
         ensures { λ r. ⌜ r ≡ defaultRecord ⌝ }
     {
-        let none = ConnectionId::empty();
-        let zeros = [0u8; 16];
         TransportParameters {
             numbers: catalogue::DEFAULTS,
             disable_active_migration: false,
             max_datagram_frame_size: OptionalNumber::Absent,
-            initial_src_cid: OptionalConnectionId {
-                present: false,
-                cid: none,
-            },
+            initial_src_cid: OptionalConnectionId::absent(),
             grease_quic_bit: false,
             min_ack_delay: OptionalNumber::Absent,
-            original_dst_cid: OptionalConnectionId {
-                present: false,
-                cid: none,
-            },
-            retry_src_cid: OptionalConnectionId {
-                present: false,
-                cid: none,
-            },
-            stateless_reset_token: OptionalResetToken {
-                present: false,
-                token: ResetToken { bytes: zeros },
-            },
-            preferred_address: PreferredAddress {
-                present: false,
-                address_v4: SocketAddrV4 {
-                    present: false,
-                    ip: [0; 4],
-                    port: 0,
-                },
-                address_v6: SocketAddrV6 {
-                    present: false,
-                    ip: zeros,
-                    port: 0,
-                },
-                connection_id: none,
-                stateless_reset_token: ResetToken { bytes: zeros },
-            },
-            grease_transport_parameter: ReservedTransportParameter {
-                present: false,
-                id: 0,
-                payload: zeros,
-                payload_len: 0,
-            },
-            write_order: WriteOrder {
-                present: false,
-                places: [0; PLACES],
-            },
+            original_dst_cid: OptionalConnectionId::absent(),
+            retry_src_cid: OptionalConnectionId::absent(),
+            stateless_reset_token: OptionalResetToken::absent(),
+            preferred_address: PreferredAddress::absent(),
+            grease_transport_parameter: ReservedTransportParameter::absent(),
+            write_order: WriteOrder::absent(),
         }
     }
 
@@ -368,6 +399,4 @@ impl TransportParameters {
             ),
         )
     }
-
-    // Whether the value rules hold for a side.
 }

@@ -1,23 +1,28 @@
 -- `reader::cid_at` meets its contract. Assumes nothing.
-use Rattle.reader.specs.Index.{spans}
-use Rattle.catalogue.specs.Catalogue.{fits}
+use mathlib.Core.Path.{_≡_, refl, sym, _∙_}
+use native.Mathlib.Omega.{arith}
 use borrow.Author.Tests.{leb-true}
-use mathlib.Core.Path.{sym, _∙_}
+use Rattle.catalogue.specs.Catalogue.{fits}
+use Rattle.reader.specs.Kept.{valueAt}
+use Rattle.reader.proofs.Indexed.{lent}
 use borrow.Author.Needs.{needs}
 use Rattle.reader.proofs.cid_at.Statement.{statement}
 use Rattle.reader.proofs.cid_at.Tie as tie
 
-mul-f : tie.Need-mul-f
-mul-f c = search needs
+mul-start : tie.Need-mul-start
+mul-start c = search needs
 
-element-copy-out-f : tie.Need-element-copy-out-f
-element-copy-out-f c = search needs
+element-copy-out-start : tie.Need-element-copy-out-start
+element-copy-out-start c = search needs
 
-mul-t : tie.Need-mul-t
-mul-t c = search needs
+element-copy-out-end : tie.Need-element-copy-out-end
+element-copy-out-end c = search needs
 
-element-copy-out-t : tie.Need-element-copy-out-t
-element-copy-out-t c = search needs
+cast-end : tie.Need-cast-end
+cast-end c = search needs
+
+add-end : tie.Need-add-end
+add-end c = omega (arith, c .before .before .before .pre .1 .within)
 
 is-marked-requires : tie.Need-is-marked-requires
 is-marked-requires c κs = search needs
@@ -33,20 +38,21 @@ part-cid-in-end c = search needs
 
 cid-in-requires : tie.Need-cid-in-requires
 unfolding fits
-cid-in-requires c κs = λ h. leb-true _ _ (c .before .before .before .before .before .pre .1 .fit (sym (c .before .is-marked .ensures) ∙ h))
+cid-in-requires c κs = λ h. rw (lent _ _ _) (leb-true _ _ (c .before .before .before .before .before .pre .1 .fit (sym (c .before .is-marked .ensures) ∙ h)))
 
 returns : tie.Need-returns
-unfolding spans
-returns c = c .cid-in .ensures ∙ rw (c .before .before .is-marked .ensures)
+unfolding valueAt
+returns c = c .cid-in .ensures ∙ rw (lent _ _ (c .before .before .before .before .before .before .args .src .now), c .before .before .is-marked .ensures)
 
 pub cid-at-spec : {M : Type 1} → statement M
 cid-at-spec =
     tie.close
     (tie.spec
-    mul-f
-    element-copy-out-f
-    mul-t
-    element-copy-out-t
+    mul-start
+    element-copy-out-start
+    element-copy-out-end
+    cast-end
+    add-end
     is-marked-requires
     sub-cid-in
     part-cid-in-start

@@ -1,4 +1,5 @@
 -- `reader::refuse` meets its contract. Assumes nothing.
+
 use borrow.Author.Needs.{needs}
 use Rattle.reader.proofs.refuse.Statement.{statement}
 use Rattle.reader.proofs.refuse.Tie as tie
@@ -10,7 +11,12 @@ default-requires : tie.Need-default-requires
 default-requires c κs = search needs
 
 returns : tie.Need-returns
-returns c = cc
+returns c = rw (c .default .ensures, c .before .refusal .ensures)
 
 pub refuse-spec : {M : Type 1} → statement M
-refuse-spec = tie.close (tie.spec refusal-requires default-requires returns)
+refuse-spec =
+    tie.close
+    (tie.spec
+    refusal-requires
+    default-requires
+    returns)

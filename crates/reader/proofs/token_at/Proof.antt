@@ -1,17 +1,25 @@
 -- `reader::token_at` meets its contract. Assumes nothing.
-use Rattle.reader.specs.Index.{spans}
-use Rattle.catalogue.specs.Catalogue.{fits}
+use mathlib.Core.Path.{_≡_, refl, sym, _∙_}
+use native.Mathlib.Omega.{arith}
 use borrow.Author.Tests.{eqb-true}
-use mathlib.Core.Path.{sym, _∙_}
+use Rattle.catalogue.specs.Catalogue.{fits}
+use Rattle.reader.specs.Kept.{valueAt}
+use Rattle.reader.proofs.Indexed.{lent}
 use borrow.Author.Needs.{needs}
 use Rattle.reader.proofs.token_at.Statement.{statement}
 use Rattle.reader.proofs.token_at.Tie as tie
 
-element-copy-out-f : tie.Need-element-copy-out-f
-element-copy-out-f c = search needs
+element-copy-out-start : tie.Need-element-copy-out-start
+element-copy-out-start c = search needs
 
-element-copy-out-t : tie.Need-element-copy-out-t
-element-copy-out-t c = search needs
+element-copy-out-end : tie.Need-element-copy-out-end
+element-copy-out-end c = search needs
+
+cast-end : tie.Need-cast-end
+cast-end c = search needs
+
+add-end : tie.Need-add-end
+add-end c = omega (arith, c .before .before .before .pre .within)
 
 is-marked-requires : tie.Need-is-marked-requires
 is-marked-requires c κs = search needs
@@ -27,18 +35,20 @@ part-token-in-end c = search needs
 
 token-in-requires : tie.Need-token-in-requires
 unfolding fits
-token-in-requires c κs = λ h. eqb-true _ _ (c .before .before .before .before .before .pre .fit (sym (c .before .is-marked .ensures) ∙ h))
+token-in-requires c κs = λ h. rw (lent _ _ _) (eqb-true _ _ (c .before .before .before .before .before .pre .fit (sym (c .before .is-marked .ensures) ∙ h)))
 
 returns : tie.Need-returns
-unfolding spans
-returns c = c .token-in .ensures ∙ rw (c .before .before .is-marked .ensures)
+unfolding valueAt
+returns c = c .token-in .ensures ∙ rw (lent _ _ (c .before .before .before .before .before .before .args .src .now), c .before .before .is-marked .ensures)
 
 pub token-at-spec : {M : Type 1} → statement M
 token-at-spec =
     tie.close
     (tie.spec
-    element-copy-out-f
-    element-copy-out-t
+    element-copy-out-start
+    element-copy-out-end
+    cast-end
+    add-end
     is-marked-requires
     sub-token-in
     part-token-in-start

@@ -1,4 +1,5 @@
 -- `reader::v4_of` meets its contract. Assumes nothing.
+use Rattle.words.specs.Words.{elements}
 use Rattle.reader.proofs.Built.{v4-built}
 use borrow.Author.Needs.{needs}
 use Rattle.reader.proofs.v4_of.Statement.{statement}
@@ -29,6 +30,7 @@ port-of-requires : tie.Need-port-of-requires
 port-of-requires c κs = search needs
 
 returns : tie.Need-returns
+unfolding elements
 returns c = v4-built (c .before .before .before .before .before .before .before .before .before .args .v .now) _ _ (c .before .before .before .before .before .before .before .before .before .pre) (c .before .before .before .before .before .before .before .all-zero .ensures) (c .port-of .ensures)
 
 pub v4-of-spec : {M : Type 1} → statement M

@@ -1,0 +1,19 @@
+-- `record::OptionalConnectionId::absent` meets its contract. Assumes nothing.
+use Rattle.record.specs.Values.{cidIn}
+use borrow.Author.Needs.{needs}
+use Rattle.record.proofs.OptionalConnectionId.absent.Statement.{statement}
+use Rattle.record.proofs.OptionalConnectionId.absent.Tie as tie
+
+empty-requires : tie.Need-empty-requires
+empty-requires c κs = search needs
+
+returns : tie.Need-returns
+unfolding cidIn
+returns c = rw (c .empty .ensures)
+
+pub absent-spec : {M : Type 1} → statement M
+absent-spec =
+    tie.close
+    (tie.spec
+    empty-requires
+    returns)
