@@ -1,6 +1,7 @@
 -- Laws of the parameter at the front of some bytes: no other file knows the wire form of its head. Assumes nothing.
 --     not-cut           a number that was not cut off was read
 --     front-append      bytes behind change nothing
+--     parts             two numbers and a value are a parameter
 --     front-parameter   a parameter that was written is read, with any bytes behind it
 --     shorter           fewer bytes are behind it
 use Prim.Native.Nat.{ℕ, suc, _+_, _-_, _/_, _^_, _≤_, _<_}
@@ -57,7 +58,7 @@ pub unfront : (bs : List ℕ) (i n l m : ℕ) → readNumber bs ≡ accepted (i,
 unfolding readParameter
 unfront bs i n l m e f h = rw (e, f, le-leb _ _ h)
 
-number-append : (bs cs : List ℕ) (a : ℕ × ℕ) → readNumber bs ≡ accepted a → readNumber (bs ++ cs) ≡ accepted a
+pub number-append : (bs cs : List ℕ) (a : ℕ × ℕ) → readNumber bs ≡ accepted a → readNumber (bs ++ cs) ≡ accepted a
 unfolding readNumber
 number-append [] cs a e = let z : _≡_ {A = ℕ} 0 1 = cc in absurd (omega arith)
 number-append (b ∷ bs) cs a e =
@@ -79,7 +80,7 @@ front-appended bs cs id v rest f =
 pub front-append : (bs cs : List ℕ) (i : ℕ × List ℕ × List ℕ) → readParameter bs ≡ accepted i → readParameter (bs ++ cs) ≡ accepted (i .0, i .1, i .2 ++ cs)
 front-append bs cs i e = front-appended bs cs (i .0) (i .1) (i .2) (at-front bs i e)
 
-parts : (a b v cs : List ℕ) (id : ℕ) → readNumber (a ++ (b ++ (v ++ cs))) ≡ accepted (id, length a) → readNumber (b ++ (v ++ cs)) ≡ accepted (length v, length b)
+pub parts : (a b v cs : List ℕ) (id : ℕ) → readNumber (a ++ (b ++ (v ++ cs))) ≡ accepted (id, length a) → readNumber (b ++ (v ++ cs)) ≡ accepted (length v, length b)
     → readParameter (a ++ (b ++ (v ++ cs))) ≡ accepted (id, v, cs)
 unfolding readParameter
 parts a b v cs id e f =

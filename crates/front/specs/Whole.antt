@@ -21,3 +21,22 @@ pub data Inserted : List (List ℕ) → List (List ℕ) → Type 0 where
   done : Inserted [] []
   same : {w : List ℕ} {ws ws′ : List (List ℕ)} → Whole w → Inserted ws ws′ → Inserted (w ∷ ws) (w ∷ ws′)
   unknown : {w : List ℕ} {ws ws′ : List (List ℕ)} (h : Whole w) → places ≤ placeOf (h .id) → Inserted ws ws′ → Inserted ws (w ∷ ws′)
+
+-- every one of them is whole
+abbrev pub Wholes : List (List ℕ) → Type 0
+Wholes [] = Unit {0}
+Wholes (w ∷ ws) = Whole w × Wholes ws
+
+-- bytes that are whole parameters, one after another
+pub record Composed (e : List ℕ) : Type 0 where
+  pub ws : List (List ℕ)
+  pub is : concat ws ≡ e
+  pub each : Wholes ws
+
+-- bytes, and the same with unknown whole parameters put in anywhere: before, between or behind those of e
+pub record Stuffed (e e′ : List ℕ) : Type 0 where
+  pub ws : List (List ℕ)
+  pub ws′ : List (List ℕ)
+  pub is : concat ws ≡ e
+  pub is′ : concat ws′ ≡ e′
+  pub put : Inserted ws ws′

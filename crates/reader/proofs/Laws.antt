@@ -4,12 +4,15 @@
 --     accepts             what an accepted extension shows
 --     accepted-legal      the record is legal for the side that read it, and has neither order nor reserved parameter
 --     same-record         the record does not depend on the side
+--     whole               what a side accepts is made of whole parameters
+--     once                in one way only
 --     unknown-skipped     unknown whole parameters anywhere leave the outcome as it was
-use Prim.Native.Nat.{ℕ}
-use mathlib.Core.Path.{_≡_, refl, ap, sym, _∙_, fun-ext}
+use Prim.Native.Nat.{ℕ, zero, suc}
+use mathlib.Core.Path.{_≡_, refl, ap, ap₂, sym, _∙_, fun-ext}
 use mathlib.Core.List.{List, [], _∷_, _++_, append-assoc}
 use mathlib.Core.Bool.{true}
 use native.Mathlib.Omega.{arith}
+use lib.ListN.{length}
 use Rattle.refusal.specs.Outcome.{Result, accepted, refused, andThen, all}
 use Rattle.refusal.proofs.Laws.{inverted, picked}
 use Rattle.record.specs.declared.TransportParameters.{TransportParameters}
@@ -21,16 +24,14 @@ use Rattle.record.proofs.Records.{formed, families}
 use Rattle.front.specs.declared.Fault.{Fault}
 use Rattle.front.specs.declared.Fault.the-variants.{Illegal}
 use Rattle.front.specs.Answer.{numbered}
-use Rattle.reader.specs.Reading.{step, parse, judge, read}
-use Rattle.front.specs.Whole.{Whole, Inserted, concat}
+use Rattle.front.specs.Parameter.{readParameter}
+use Rattle.reader.specs.Reading.{step, parseIn, parse, judge, read}
+use Rattle.front.specs.Whole.{Whole, Inserted, concat, Wholes, Composed, Stuffed}
+use Rattle.front.proofs.Split.{CutOut, cut-out, same-front, not-empty}
 use Rattle.reader.proofs.Run.{parse-nil, parse-whole, skipped}
 use Rattle.reader.proofs.Grow.{grown}
 
 -- WHOLE PARAMETERS
-abbrev pub Wholes : List (List ℕ) → Type 0
-Wholes [] = Unit {0}
-Wholes (w ∷ ws) = Whole w × Wholes ws
-
 abbrev pub steps : (ws : List (List ℕ)) → Wholes ws → Values → Result Fault Values
 steps [] h l = accepted l
 steps (w ∷ ws) h l = andThen (step l (h .0 .id) (h .0 .v)) (steps ws (h .1))
@@ -94,6 +95,34 @@ same-record s s′ bs r r′ e e′ =
     let q : a .values ≡ a′ .values = cc (a .was, a′ .was) in
     cc (a .is, a′ .is, q)
 
-pub unknown-skipped : (s : Side) (ws ws′ : List (List ℕ)) → Inserted ws ws′ → read s (concat ws′) ≡ read s (concat ws)
+-- WHOLE PARAMETERS of what is accepted
+parsed-whole : (f : ℕ) (l m : Values) (bs : List ℕ) → parseIn f l bs ≡ accepted m → Composed bs
+parsed-whole zero l m [] e = record { ws = []; is = refl; each = tt }
+parsed-whole zero l m (b ∷ bs) e = let z : _≡_ {A = ℕ} 0 1 = cc in absurd (omega arith)
+parsed-whole (suc f) l m [] e = record { ws = []; is = refl; each = tt }
+parsed-whole (suc f) l m (b ∷ bs) e =
+    let ih = parsed-whole f in
+    inverted (readParameter (b ∷ bs)) _ m e λ i ie ef.
+    inverted (step l (i .0) (i .1)) _ m ef λ k ke kf.
+    let c = cut-out (b ∷ bs) i ie in
+    let d = ih k m (i .2) kf in
+    record { ws = c .w ∷ d .ws; is = ap (λ x. c .w ++ x) (d .is) ∙ c .are; each = (c .whole, d .each) }
+
+pub whole : (s : Side) (e : List ℕ) (r : TransportParameters) → read s e ≡ accepted r → Composed e
+unfolding parse
+whole s e r k = let a = accepts s e r k in parsed-whole (length e) noValues (a .values) e (a .was)
+
+pub once : (ws us : List (List ℕ)) → Wholes ws → Wholes us → concat ws ≡ concat us → ws ≡ us
+once [] [] h g e = refl
+once [] ([] ∷ us) h g e = absurd (not-empty (g .0))
+once [] ((b ∷ u) ∷ us) h g e = let z : _≡_ {A = ℕ} 0 1 = cc in absurd (omega arith)
+once ([] ∷ ws) [] h g e = absurd (not-empty (h .0))
+once ((b ∷ w) ∷ ws) [] h g e = let z : _≡_ {A = ℕ} 0 1 = cc in absurd (omega arith)
+once (w ∷ ws) (u ∷ us) h g e =
+    let ih = once ws us (h .1) (g .1) in
+    same-front w u (concat ws) (concat us) (h .0) (g .0) e λ p q. ap₂ _∷_ p (ih q)
+
+-- UNKNOWN ONES put in
+pub unknown-skipped : (s : Side) (e e′ : List ℕ) → Stuffed e e′ → read s e′ ≡ read s e
 unfolding read
-unknown-skipped s ws ws′ i = rw (skipped i noValues)
+unknown-skipped s e e′ i = rw (← i .is, ← i .is′, skipped (i .put) noValues)
