@@ -17,18 +17,20 @@ use Rattle.connection_id.specs.ConnectionId.{formedCid}
 use Rattle.record.specs.declared.TransportParameters.{TransportParameters}
 use Rattle.record.specs.Record.{defaultRecord}
 use Rattle.order.specs.Order.{permutation}
+use Rattle.catalogue.specs.Catalogue.{places}
 use Rattle.building.specs.declared.Settings.{Settings}
 use Rattle.refusal.specs.declared.Answer.the-variants.{Accepted, Refused}
 use Rattle.building.specs.declared.Built.{Built}
 use Rattle.building.specs.Building.{settingsFit, drawFits, reservedFrom, orderFrom, recordFrom, build}
-use Rattle.building.specs.Answer.{buildOutcome, settled, madeOf}
+use Rattle.refusal.specs.Answer.{answerOutcome, settledBy}
+use Rattle.building.specs.Answer.{madeOf}
 
 -- the settled answers
 pub refused-with : (b : Built) (e : Refusal) (o : Outcome TransportParameters) → b ≡ madeOf (Refused e) defaultRecord → o ≡ refused (numberOf e)
-    → (buildOutcome b, b .parameters) ≡ settled o
+    → (answerOutcome (b .parameters) (b .answer), b .parameters) ≡ settledBy defaultRecord o
 refused-with b e o h k = rw (h, k)
 
-pub accepted-with : (r v : TransportParameters) (o : Outcome TransportParameters) → r ≡ v → o ≡ accepted v → (buildOutcome (madeOf Accepted r), r) ≡ settled o
+pub accepted-with : (r v : TransportParameters) (o : Outcome TransportParameters) → r ≡ v → o ≡ accepted v → (accepted r, r) ≡ settledBy defaultRecord o
 accepted-with r v o h k = rw (h, k)
 
 -- at most 15 bytes
@@ -56,7 +58,7 @@ draw-facts d payload h = go (ltb d (bound - 27)) (leb (length payload) 15) refl 
     go true false e f k = let z : _≡_ {A = ℕ} 0 1 = cc in absurd (omega arith)
     go false t e f k = let z : _≡_ {A = ℕ} 0 1 = cc in absurd (omega arith)
 
-pub order-length : (order : List ℕ) → permutation order ≡ true → length order ≡ 21
+pub order-length : (order : List ℕ) → permutation order ≡ true → length order ≡ places
 unfolding permutation
 order-length order h = eqb-true _ _ (all-at _ h 0)
 

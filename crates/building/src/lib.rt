@@ -2,23 +2,36 @@
 // draws at random is handed in.
 ghost use mathlib.Core.Path.{_≡_};
 ghost use mathlib.Core.Bool.{_&&_, not};
-ghost use Prim.Native.Nat.{_-_, _≤_, _<_, min};
+ghost use Prim.Native.Nat.{_-_, _≤_, _<_};
 ghost use lib.ListN.{length};
 ghost use Rattle.refusal.specs.Outcome.{pick};
 ghost use Rattle.varint.specs.Number.{bound};
-ghost use Rattle.record.specs.Record.{least, defaultRecord};
+ghost use Rattle.catalogue.specs.Catalogue.{places};
+ghost use Rattle.record.specs.Record.{defaultRecord};
 ghost use Rattle.rules.specs.Rules.{isServer};
 ghost use Rattle.building.specs.Building.{settingsFit, cutSize, numbersFrom, drawFits, reservedId, reservedFrom, orderFrom, recordFrom, build};
-ghost use Rattle.building.specs.Answer.{madeOf, buildOutcome, settled};
+ghost use Rattle.building.specs.Answer.{madeOf};
+ghost use Rattle.refusal.specs.Answer.{answerOutcome, settledBy};
+use catalogue::ACK_DELAY_EXPONENT;
+use catalogue::ACTIVE_CONNECTION_ID_LIMIT;
+use catalogue::DEFAULTS;
+use catalogue::MAX_ACK_DELAY;
+use catalogue::NUMBERS;
+use catalogue::PLACES;
 use connection_id::ConnectionId;
 use record::OptionalConnectionId;
 use record::OptionalNumber;
+use record::OptionalResetToken;
+use record::PreferredAddress;
 use record::ReservedTransportParameter;
 use record::TransportParameters;
 use record::WriteOrder;
+use refusal::Answer;
 use refusal::Refusal;
 use rules::Side;
 use varint::VarInt;
+use words::and;
+use words::minimum;
 
 // What `new` takes from the configurations of the transport, the endpoint and the server, and from the generator of connection IDs.
 pub struct Settings {
@@ -38,15 +51,9 @@ pub struct Settings {
     pub migration: bool,
 }
 
-// What building gives.
-pub enum Building {
-    Accepted,
-    Refused(Refusal),
-}
-
 // The answer, and the record: the default one if refused.
 pub struct Built {
-    pub answer: Building,
+    pub answer: Answer,
     pub parameters: TransportParameters,
 }
 
@@ -61,36 +68,13 @@ const TIMER_GRANULARITY: u64 = 1000;
 // Draws for a reserved identifier are below this.
 const DRAWS: u64 = (1 << 62) - 27;
 
-// Defaults of numbers that no setting says.
-const ACK_DELAY_EXPONENT: u64 = 3;
-
-const MAX_ACK_DELAY: u64 = 25;
-
-const ACTIVE_CONNECTION_ID_LIMIT: u64 = 2;
-
-fn and(a: bool, b: bool) -> bool
-    ensures { λ r. ⌜ r ≡ (a && b) ⌝ }
-{
-    if a { b } else { false }
-}
-
-// The idle timeout; 0, that is none, if it is absent.
-fn idle_timeout(o: OptionalNumber) -> u64
-    ensures { λ r. ⌜ r ≡ least o ⌝ }
-{
-    match o {
-        OptionalNumber::Absent => 0,
-        OptionalNumber::Present(x) => x,
-    }
-}
-
 // Whether the settings that are sent as they are can be sent.
 fn settings_fit(s: Settings) -> bool
     ensures { λ r. ⌜ r ≡ settingsFit s ⌝ }
 {
     let idle = s.max_idle_timeout;
     let rest = and(
-        idle_timeout(idle) <= VarInt::MAX.0,
+        idle.or_zero() <= VarInt::MAX.0,
         s.max_udp_payload_size <= VarInt::MAX.0,
     );
     let windows = and(
@@ -108,7 +92,7 @@ fn cid_limit(empty: bool) -> u64
     ensures { λ r. ⌜ r ≡ pick empty 2 5 ⌝ }
 {
     if empty {
-        ACTIVE_CONNECTION_ID_LIMIT
+        DEFAULTS[ACTIVE_CONNECTION_ID_LIMIT]
     } else {
         CID_QUEUE_LEN
     }
@@ -120,14 +104,8 @@ fn cut_size(o: OptionalNumber) -> OptionalNumber
 {
     match o {
         OptionalNumber::Absent => OptionalNumber::Absent,
-        OptionalNumber::Present(x) => OptionalNumber::Present(smaller(x, MAX_DATAGRAM_SIZE)),
+        OptionalNumber::Present(x) => OptionalNumber::Present(minimum(x, MAX_DATAGRAM_SIZE)),
     }
-}
-
-fn smaller(a: u64, b: u64) -> u64
-    ensures { λ r. ⌜ r ≡ min a b ⌝ }
-{
-    if a < b { a } else { b }
 }
 
 // Only a server that forbids migration disables it.
@@ -178,10 +156,10 @@ fn reserved_of(draw: u64, payload: &[u8]) -> ReservedTransportParameter
 }
 
 fn order_of(order: &[u8]) -> WriteOrder
-    requires { ⌜ length (now order) ≡ 21 ⌝ }
+    requires { ⌜ length (now order) ≡ places ⌝ }
     ensures { λ r. ⌜ r ≡ orderFrom (now (order .entry)) ⌝ }
 {
-    let mut places = [0u8; 21];
+    let mut places = [0u8; PLACES];
     let mut i: usize = 0;
     while i < PLACES {
         places[i] = order[i];
@@ -194,13 +172,13 @@ fn order_of(order: &[u8]) -> WriteOrder
 }
 
 // The numbers of places 0 to 10, with the active_connection_id_limit.
-fn numbers_of(s: Settings, limit: u64) -> [u64; 11]
+fn numbers_of(s: Settings, limit: u64) -> [u64; NUMBERS]
     ensures { λ r. ⌜ r ≡ numbersFrom s limit ⌝ }
 {
     let idle = s.max_idle_timeout;
     let window = s.stream_receive_window;
     [
-        idle_timeout(idle),
+        idle.or_zero(),
         s.max_udp_payload_size,
         s.receive_window,
         window,
@@ -208,8 +186,8 @@ fn numbers_of(s: Settings, limit: u64) -> [u64; 11]
         window,
         s.max_concurrent_bidi_streams,
         s.max_concurrent_uni_streams,
-        ACK_DELAY_EXPONENT,
-        MAX_ACK_DELAY,
+        DEFAULTS[ACK_DELAY_EXPONENT],
+        DEFAULTS[MAX_ACK_DELAY],
         limit,
     ]
 }
@@ -226,11 +204,6 @@ fn record_of(
     let size = s.datagram_receive_buffer_size;
     let side = s.side;
     let limit = cid_limit(s.cid_len == 0);
-    let others = TransportParameters::default();
-    let original = others.original_dst_cid;
-    let retry = others.retry_src_cid;
-    let token = others.stateless_reset_token;
-    let address = others.preferred_address;
     TransportParameters {
         numbers: numbers_of(s, limit),
         disable_active_migration: migration_disabled(side, s.migration),
@@ -238,10 +211,10 @@ fn record_of(
         initial_src_cid: OptionalConnectionId { present: true, cid },
         grease_quic_bit: s.grease_quic_bit,
         min_ack_delay: OptionalNumber::Present(TIMER_GRANULARITY),
-        original_dst_cid: original,
-        retry_src_cid: retry,
-        stateless_reset_token: token,
-        preferred_address: address,
+        original_dst_cid: OptionalConnectionId::absent(),
+        retry_src_cid: OptionalConnectionId::absent(),
+        stateless_reset_token: OptionalResetToken::absent(),
+        preferred_address: PreferredAddress::absent(),
         grease_transport_parameter: reserved,
         write_order: order,
     }
@@ -249,10 +222,10 @@ fn record_of(
 
 // A refusal, with the default record.
 fn refuse(refusal: Refusal) -> Built
-    ensures { λ r. ⌜ r ≡ madeOf (Building.Refused refusal) defaultRecord ⌝ }
+    ensures { λ r. ⌜ r ≡ madeOf (Answer.Refused refusal) defaultRecord ⌝ }
 {
     Built {
-        answer: Building::Refused(refusal),
+        answer: Answer::Refused(refusal),
         parameters: TransportParameters::default(),
     }
 }
@@ -265,7 +238,7 @@ pub fn new(
     payload: &[u8],
     order: &[u8],
 ) -> Built
-    ensures { λ r. ⌜ (buildOutcome r, r .parameters) ≡ settled (build settings «initial_src_cid» draw (now (payload .entry)) (now (order .entry))) ⌝ }
+    ensures { λ r. ⌜ (answerOutcome (r .parameters) (r .answer), r .parameters) ≡ settledBy defaultRecord (build settings «initial_src_cid» draw (now (payload .entry)) (now (order .entry))) ⌝ }
 {
     if !settings_fit(settings) {
         return refuse(Refusal::VarIntBoundsExceeded);
@@ -282,7 +255,7 @@ pub fn new(
     let reserved = reserved_of(draw, payload);
     let places = order_of(order);
     Built {
-        answer: Building::Accepted,
+        answer: Answer::Accepted,
         parameters: record_of(settings, initial_src_cid, reserved, places),
     }
 }

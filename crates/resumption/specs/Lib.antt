@@ -1,2 +1,1 @@
 pub mod Resumption
-pub mod Answer

@@ -1,54 +1,31 @@
 // Resumption from remembered parameters, and how many connection IDs to issue: `validate_resumption_from` and `issue_cids_limit` of
 // quinn's transport_parameters.rs.
 ghost use mathlib.Core.Path.{_≡_};
-ghost use mathlib.Core.Bool.{_&&_, _||_};
-ghost use Prim.Native.Nat.{min};
 ghost use lib.ListN.{length};
 ghost use lib.Dec.{leb};
 ghost use Rattle.resumption.specs.Resumption.{limitsKept, sizeRank, nothingReduced, resume, issueLimit};
 ghost use Rattle.refusal.specs.Answer.{verdictOutcome};
+use catalogue::ACTIVE_CONNECTION_ID_LIMIT;
+use catalogue::INITIAL_MAX_DATA;
+use catalogue::INITIAL_MAX_STREAMS_BIDI;
+use catalogue::INITIAL_MAX_STREAMS_UNI;
+use catalogue::INITIAL_MAX_STREAM_DATA_BIDI_LOCAL;
+use catalogue::INITIAL_MAX_STREAM_DATA_BIDI_REMOTE;
+use catalogue::INITIAL_MAX_STREAM_DATA_UNI;
+use catalogue::NUMBERS;
 use record::OptionalNumber;
 use record::TransportParameters;
+use refusal::Answer;
 use refusal::Refusal;
-
-// What resuming gives.
-pub enum Resumption {
-    Accepted,
-    Refused(Refusal),
-}
-
-// Places of the remembered limits.
-const INITIAL_MAX_DATA: usize = 2;
-
-const INITIAL_MAX_STREAM_DATA_BIDI_LOCAL: usize = 3;
-
-const INITIAL_MAX_STREAM_DATA_BIDI_REMOTE: usize = 4;
-
-const INITIAL_MAX_STREAM_DATA_UNI: usize = 5;
-
-const INITIAL_MAX_STREAMS_BIDI: usize = 6;
-
-const INITIAL_MAX_STREAMS_UNI: usize = 7;
-
-const ACTIVE_CONNECTION_ID_LIMIT: usize = 10;
+use words::and;
+use words::minimum;
+use words::or;
 
 // How many connection IDs are issued at most.
 const LOC_CID_COUNT: u64 = 8;
 
-fn and(a: bool, b: bool) -> bool
-    ensures { λ r. ⌜ r ≡ (a && b) ⌝ }
-{
-    if a { b } else { false }
-}
-
-fn or(a: bool, b: bool) -> bool
-    ensures { λ r. ⌜ r ≡ (a || b) ⌝ }
-{
-    if a { true } else { b }
-}
-
 // Whether no remembered limit is reduced.
-fn limits_kept<'a>(new: &'a [u64; 11], cached: &'a [u64; 11]) -> bool
+fn limits_kept<'a>(new: &'a [u64; NUMBERS], cached: &'a [u64; NUMBERS]) -> bool
     requires { ⌜ (length (now new) ≡ 11) × (length (now cached) ≡ 11) ⌝ }
     ensures { λ r. ⌜ r ≡ limitsKept (now (new .entry)) (now (cached .entry)) ⌝ }
 {
@@ -108,22 +85,16 @@ fn nothing_reduced(new: TransportParameters, cached: TransportParameters) -> boo
 }
 
 // Whether 0-RTT may go on with new parameters, given those remembered.
-pub fn validate_resumption_from(new: TransportParameters, cached: TransportParameters) -> Resumption
+pub fn validate_resumption_from(new: TransportParameters, cached: TransportParameters) -> Answer
     ensures { λ r. ⌜ verdictOutcome r ≡ resume new cached ⌝ }
 {
     if !and(new.is_well_formed(), cached.is_well_formed()) {
-        return Resumption::Refused(Refusal::IllFormed);
+        return Answer::Refused(Refusal::IllFormed);
     }
     if !nothing_reduced(new, cached) {
-        return Resumption::Refused(Refusal::LimitReduced);
+        return Answer::Refused(Refusal::LimitReduced);
     }
-    Resumption::Accepted
-}
-
-fn smaller(a: u64, b: u64) -> u64
-    ensures { λ r. ⌜ r ≡ min a b ⌝ }
-{
-    if a < b { a } else { b }
+    Answer::Accepted
 }
 
 // How many connection IDs to issue to the peer of this record.
@@ -131,5 +102,5 @@ pub fn issue_cids_limit(r: TransportParameters) -> u64
     ensures { λ n. ⌜ n ≡ issueLimit r ⌝ }
 {
     let n = r.numbers;
-    smaller(n[ACTIVE_CONNECTION_ID_LIMIT], LOC_CID_COUNT)
+    minimum(n[ACTIVE_CONNECTION_ID_LIMIT], LOC_CID_COUNT)
 }

@@ -2,10 +2,9 @@
 ghost use mathlib.Core.Path.{_≡_};
 ghost use mathlib.Core.List.{[], _∷_};
 ghost use mathlib.Core.Bool.{_&&_, _||_};
-ghost use Prim.Native.Nat.{_+_, _*_, _/_, _^_, _<_};
-ghost use lib.Dec.{leb, eqb};
+ghost use Prim.Native.Nat.{_+_, _*_, _/_, _^_, _<_, min};
+ghost use lib.Dec.{eqb};
 ghost use lib.ListN.{drop};
-ghost use Rattle.refusal.specs.Outcome.{pick};
 ghost use Rattle.words.specs.Words.{zeros, Word, elements};
 
 pub fn and(a: bool, b: bool) -> bool
@@ -21,9 +20,9 @@ pub fn or(a: bool, b: bool) -> bool
 }
 
 pub fn minimum(a: u64, b: u64) -> u64
-    ensures { λ r. ⌜ r ≡ pick (leb a b) a b ⌝ }
+    ensures { λ r. ⌜ r ≡ min a b ⌝ }
 {
-    if a <= b { a } else { b }
+    if a < b { a } else { b }
 }
 
 pub fn wide(x: u8) -> u64

@@ -10,8 +10,8 @@ enum-told c = search needs
 enum-known-o : tie.Need-enum-known-o
 enum-known-o c = search needs
 
-smaller-requires : tie.Need-smaller-requires
-smaller-requires c κs = search needs
+minimum-requires : tie.Need-minimum-requires
+minimum-requires c κs = search needs
 
 returns : tie.Need-returns
 unfolding cutSize
@@ -19,7 +19,7 @@ returns c = rw (c .enum-told .given .1)
 
 returns-2 : tie.Need-returns-2
 unfolding cutSize
-returns-2 c = rw (c .smaller .ensures, c .before .before .o .given .1)
+returns-2 c = rw (c .minimum .ensures, c .before .before .o .given .1)
 
 pub cut-size-spec : {M : Type 1} → statement M
-cut-size-spec = tie.close (tie.spec enum-told enum-known-o smaller-requires returns returns-2)
+cut-size-spec = tie.close (tie.spec enum-told enum-known-o minimum-requires returns returns-2)

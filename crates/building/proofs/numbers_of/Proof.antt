@@ -5,12 +5,12 @@ use borrow.Author.Needs.{needs}
 use Rattle.building.proofs.numbers_of.Statement.{statement}
 use Rattle.building.proofs.numbers_of.Tie as tie
 
-idle-timeout-requires : tie.Need-idle-timeout-requires
-idle-timeout-requires c κs = search needs
+or-zero-requires : tie.Need-or-zero-requires
+or-zero-requires c κs = search needs
 
 returns : tie.Need-returns
 unfolding numbersFrom defaults
-returns c = rw (c .idle-timeout .ensures)
+returns c = rw (c .or-zero .ensures)
 
 pub numbers-of-spec : {M : Type 1} → statement M
-numbers-of-spec = tie.close (tie.spec idle-timeout-requires returns)
+numbers-of-spec = tie.close (tie.spec or-zero-requires returns)

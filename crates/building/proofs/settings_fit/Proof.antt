@@ -6,8 +6,8 @@ use borrow.Author.Needs.{needs}
 use Rattle.building.proofs.settings_fit.Statement.{statement}
 use Rattle.building.proofs.settings_fit.Tie as tie
 
-idle-timeout-requires : tie.Need-idle-timeout-requires
-idle-timeout-requires c κs = search needs
+or-zero-requires : tie.Need-or-zero-requires
+or-zero-requires c κs = search needs
 
 and-requires : tie.Need-and-requires
 and-requires c κs = search needs
@@ -32,7 +32,7 @@ pub settings-fit-spec : {M : Type 1} → statement M
 settings-fit-spec =
     tie.close
     (tie.spec
-    idle-timeout-requires
+    or-zero-requires
     and-requires
     and-requires-2
     and-requires-3
