@@ -1,7 +1,7 @@
 -- Laws of `put`, and of the parameters that are due. Assumes nothing.
 --     put-whole, put-none    with room, and without
 --     put-wrote              with room for the most there can be, a writer leaves what is due
---     put-le                 never more than the buffer holds
+--     put-within, put-behind    never more than the buffer holds
 --     encoded, declined      what writing a number gives
 --     due-short, due-long, number-short    what is due, as the code makes it
 --     is-due, not-due        a parameter that is due or not
@@ -24,7 +24,7 @@ use Rattle.catalogue.specs.Catalogue.{parameter, parameterIf}
 use Rattle.wire.specs.Wire.{put, headOf, dueValue, dueNumber}
 use Rattle.wire.specs.Stored.{Wrote}
 use Rattle.words.proofs.Laws.{and-true}
-use Rattle.wire.proofs.Stored.{lent, back, back-same, length-lent, front-nil, front-paste, front-then, front-two, length-front, behind}
+use Rattle.wire.proofs.Stored.{lent, back, whole, back-same, length-lent, front-nil, front-paste, front-then, front-two, length-front, behind}
 
 -- STORING
 pub put-whole : (n : ℕ) (bs out m : List ℕ) → length bs ≤ length out → n ≡ length bs → m ≡ front bs out → (n, m) ≡ put bs out
@@ -54,13 +54,30 @@ put-wrote most n bs out m h k e =
     let c : n ≡ length bs = ap (λ (p : ℕ × List ℕ). p .0) q in
     record { count = c; few = omega arith; bytes = ap (λ (p : ℕ × List ℕ). p .1) q }
 
-pub put-le : (n : ℕ) (bs out m : List ℕ) → (n, m) ≡ put bs out → n ≤ length out
+pub put-within : (bs out : List ℕ) → (put bs out .0 ≤ length out) × (length (put bs out .1) ≡ length out)
 unfolding put
-put-le n bs out m e = go (leb (length bs) (length out)) refl e
+put-within bs out = go (leb (length bs) (length out)) refl
   where
-    go : (t : Bool) → leb (length bs) (length out) ≡ t → _≡_ {A = ℕ × List ℕ} (n, m) (pick t (length bs, front bs out) (0, out)) → n ≤ length out
-    go true l e = let c : n ≡ length bs = ap (λ (p : ℕ × List ℕ). p .0) e in omega (arith, leb-true (length bs) (length out) l)
-    go false l e = let c : n ≡ 0 = ap (λ (p : ℕ × List ℕ). p .0) e in omega arith
+    answer : Bool → ℕ × List ℕ
+    answer t = pick t (length bs, front bs out) (0, out)
+
+    go : (t : Bool) → leb (length bs) (length out) ≡ t → (answer t .0 ≤ length out) × (length (answer t .1) ≡ length out)
+    go true l = let k = leb-true (length bs) (length out) l in (k, length-front bs out k)
+    go false l = (omega arith, refl)
+
+-- in the part lent from a place on
+pub record Behind (at n : ℕ) (out m : List ℕ) : Type 0 where
+  pub within : at + n ≤ length (back at out m)
+  pub same : length (back at out m) ≡ length out
+
+pub put-behind : (at n : ℕ) (bs out m : List ℕ) → at ≤ length out → (n, m) ≡ put bs (lent at out) → Behind at n out m
+put-behind at n bs out m h e =
+    let w = put-within bs (lent at out) in
+    let p : n ≡ put bs (lent at out) .0 = ap (λ (q : ℕ × List ℕ). q .0) e in
+    let q : length m ≡ length (put bs (lent at out) .1) = ap (λ (q : ℕ × List ℕ). length (q .1)) e in
+    let l = length-lent at out in
+    let z : length (back at out m) ≡ length out = rw (whole at out m, length-append, length-take) (omega arith) in
+    record { within = omega arith; same = z }
 
 -- NUMBERS
 pub number-size : (x : ℕ) → (1 ≤ length (numberBytes x)) × (length (numberBytes x) ≤ 8)

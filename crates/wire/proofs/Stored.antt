@@ -5,15 +5,17 @@
 --     wrote-three     and a third
 --     lent-room       the room that is left
 --     joined-append   parameters one after another, part by part
+--     stored-short, stored-whole, stored-copy    what storing answers
 use Prim.Native.Nat.{ℕ, zero, suc, _+_, _-_, _≤_, _<_}
 use mathlib.Core.List.{List, [], _∷_, _++_, append-assoc, append-nil}
-use mathlib.Core.Path.{_≡_, refl, ap, sym, _∙_}
+use mathlib.Core.Path.{_≡_, refl, ap, ap₂, sym, _∙_}
 use native.Mathlib.Omega.{arith}
 use native.Mathlib.Nat.{zero-add}
 use native.Mathlib.Numerals.{add-one}
 use lib.ListN.{length, take, drop, set, length-append, length-drop, take-append-drop, drop-of-length-le}
 use lib.Seq.{take-all, take-length, take-append-seam, drop-append-seam, drop-drop, paste}
-use Rattle.refusal.specs.Outcome.{front}
+use borrow.Author.Tests.{le-leb, lt-leb}
+use Rattle.refusal.specs.Outcome.{Outcome, accepted, refused, front, store}
 use Rattle.wire.specs.Stored.{Wrote, joined, each}
 
 pub front-nil : (l : List ℕ) → front [] l ≡ l
@@ -35,16 +37,19 @@ lent at l = take (length l - at) (drop at l)
 abbrev pub back : ℕ → List ℕ → List ℕ → List ℕ
 back at l ys = take at l ++ (ys ++ drop (length l - at) (drop at l))
 
-rest : (at : ℕ) (l : List ℕ) → lent at l ≡ drop at l
+pub rest : (at : ℕ) (l : List ℕ) → lent at l ≡ drop at l
 rest at l = take-all (length l - at) (drop at l) (omega (arith, length-drop at l))
 
 pub length-lent : (at : ℕ) (l : List ℕ) → length (lent at l) ≡ length l - at
 length-lent at l = rw (rest at l) (length-drop at l)
 
-pub back-same : (at : ℕ) (l : List ℕ) → back at l (lent at l) ≡ l
-back-same at l =
+pub whole : (at : ℕ) (l ys : List ℕ) → back at l ys ≡ take at l ++ ys
+whole at l ys =
     let z : drop (length l - at) (drop at l) ≡ [] = drop-of-length-le (drop at l) {i = length l - at} (omega (arith, length-drop at l)) in
-    rw (z, rest at l, append-nil) (take-append-drop at l)
+    rw (z, append-nil)
+
+pub back-same : (at : ℕ) (l : List ℕ) → back at l (lent at l) ≡ l
+back-same at l = rw (whole at l (lent at l), rest at l) (take-append-drop at l)
 
 -- b behind a, in the part lent for it
 pub front-then : (a b l m ys : List ℕ) (at : ℕ) → at ≡ length a → length a + length b ≤ length l → m ≡ front a l → ys ≡ front b (lent at m)
@@ -118,3 +123,23 @@ pub length-each : (f : ℕ → List ℕ) (n : ℕ) → length (each f n) ≡ n
 unfolding each
 length-each f zero = refl
 length-each f (suc n) = rw (length-append (each f n) (f n ∷ []), length-each f n) (add-one n)
+
+-- storing
+pub stored-short : (bs out : List ℕ) → length out < length bs → _≡_ {A = Outcome ℕ × List ℕ} (refused 5, out) (store bs out)
+unfolding store
+stored-short bs out h = rw (lt-leb _ _ h)
+
+pub stored-whole : (p n : ℕ) (bs out m : List ℕ) → length bs ≤ length out → Wrote p bs out n m → _≡_ {A = Outcome ℕ × List ℕ} (accepted n, m) (store bs out)
+unfolding store
+stored-whole p n bs out m h w = rw (le-leb _ _ h) (ap₂ (λ (k : ℕ) (l : List ℕ). (accepted k, l)) (w .count) (w .bytes))
+
+-- from a buffer that it was written to first
+pub whole-part : (p n : ℕ) (bs out m : List ℕ) → Wrote p bs out n m → take n m ≡ bs
+unfolding front
+whole-part p n bs out m w = rw (w .count, w .bytes) (take-append-seam bs (drop (length bs) out))
+
+pub stored-copy : (p n : ℕ) (bs scratch m out ys : List ℕ) → Wrote p bs scratch n m → n ≤ length out → ys ≡ front (take n m) out
+    → _≡_ {A = Outcome ℕ × List ℕ} (accepted n, ys) (store bs out)
+stored-copy p n bs scratch m out ys w h e =
+    let c = w .count in
+    stored-whole p n bs out ys (omega arith) (record { count = c; few = w .few; bytes = e ∙ ap (λ (s : List ℕ). front s out) (whole-part p n bs scratch m w) })

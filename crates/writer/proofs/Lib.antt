@@ -1,7 +1,4 @@
 pub mod Extension
-pub mod Stored
-pub mod Due
 pub mod Laid
-pub mod Catalogue
-pub mod Ordered
-pub mod Answers
+pub mod Places
+pub mod Parts

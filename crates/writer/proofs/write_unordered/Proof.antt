@@ -1,58 +1,54 @@
--- `writer::write_unordered` meets its contract. Assumes nothing.
-use native.Mathlib.Omega.{arith}
-use mathlib.Core.Path.{ap, sym, _∙_}
-use lib.ListN.{length}
-use Rattle.order.proofs.Orders.{in-catalogue}
-use Rattle.writer.proofs.Extension.{longest}
-use Rattle.writer.proofs.Answers.{stored-short, stored-whole, stored-copy, catalogue-wrote, whole-part}
 use borrow.Author.Needs.{needs}
 use Rattle.writer.proofs.write_unordered.Statement.{statement}
 use Rattle.writer.proofs.write_unordered.Tie as tie
+use Rattle.writer.proofs.write_unordered.Reads as reads
+use Rattle.writer.proofs.write_unordered.Lts as lts
+use Rattle.wire.proofs.put_bytes.Reads as put-bytes-reads
+use Rattle.writer.proofs.put_catalogue.Reads as put-catalogue-reads
 
+-- src/lib.rt:286:31
 put-catalogue-requires : tie.Need-put-catalogue-requires
 put-catalogue-requires c κs = search needs
 
+-- src/lib.rt:286:9
 same-length : tie.Need-same-length
 same-length c = search needs
 
+-- src/lib.rt:286:9
 returns : tie.Need-returns
-returns c =
-    let a = c .before .before .before .before .before .before .before .args in
-    let w = catalogue-wrote (a .r) _ _ _ _ _ (c .before .before .put-catalogue .ensures) in
-    stored-whole _ _ _ (a .out .now) _ (omega (arith, longest (a .r) _ (c .before .before .before .before .before .before .before .pre) in-catalogue)) w
+returns c = ?
 
+-- src/lib.rt:289:43
 slice-aggregate-put-catalogue : tie.Need-slice-aggregate-put-catalogue
 slice-aggregate-put-catalogue c = search needs
 
+-- src/lib.rt:289:9
 put-catalogue-requires-2 : tie.Need-put-catalogue-requires-2
 put-catalogue-requires-2 c κs = search needs
 
+-- src/lib.rt:291:9
 returns-2 : tie.Need-returns-2
-returns-2 c =
-    let a = c .before .before .before .before .before .before .before .args in
-    let w = catalogue-wrote (a .r) _ _ _ _ _ (c .before .before .put-catalogue2 .ensures) in
-    stored-short _ (a .out .now) (omega (arith, w .count))
+returns-2 c = ?
 
+-- src/lib.rt:293:15
 array-share-prefix-parts : tie.Need-array-share-prefix-parts
 array-share-prefix-parts c = search needs
 
+-- src/lib.rt:293:15
 slice-aggregate-put-bytes : tie.Need-slice-aggregate-put-bytes
-slice-aggregate-put-bytes c =
-    let w = catalogue-wrote _ _ _ _ _ _ (c .before .before .before .put-catalogue2 .ensures) in
-    w .count ∙ ap length (sym (whole-part _ _ _ _ _ w))
+slice-aggregate-put-bytes c = ?
 
+-- src/lib.rt:293:5
 put-bytes-requires : tie.Need-put-bytes-requires
-put-bytes-requires c κs =
-    let w = catalogue-wrote _ _ _ _ _ _ (c .before .before .before .before .put-catalogue2 .ensures) in
-    rw (whole-part _ _ _ _ _ w) (omega (arith, w .count))
+put-bytes-requires c κs = search needs
 
+-- src/lib.rt:280:1
 same-length-2 : tie.Need-same-length-2
 same-length-2 c = search needs
 
+-- src/lib.rt:280:1
 returns-3 : tie.Need-returns-3
-returns-3 c =
-    let a = c .before .before .before .before .before .before .before .before .before .before .before .before .args in
-    stored-copy _ _ _ _ _ (a .out .now) _ (catalogue-wrote (a .r) _ _ _ _ _ (c .before .before .before .before .before .before .before .put-catalogue2 .ensures)) (c .before .before .before .before .before .if2 .left) (c .before .before .put-bytes .ensures)
+returns-3 c = ?
 
 pub write-unordered-spec : {M : Type 1} → statement M
 write-unordered-spec =
