@@ -15,9 +15,10 @@ use lib.ListN.{length, take, drop, set, length-append, length-take, length-drop,
 use lib.Seq.{sets, take-at, drop-at, drop-drop, length-take-le}
 use Rattle.refusal.specs.Outcome.{front}
 use Rattle.wire.specs.Wire.{put}
-use Rattle.wire.specs.Stored.{joined, each}
+use Rattle.wire.specs.Stored.{Wrote, joined, each}
 use Rattle.wire.proofs.Stored.{lent, back, rest, whole, length-front, length-each}
 use Rattle.wire.proofs.Put.{Behind, put-whole, put-within}
+use Rattle.writer.specs.Writing.{maxExtension}
 use Rattle.writer.specs.Laid.{laid, endsFrom}
 
 pub laid-next : (s : List ℕ) (ss : List (List ℕ)) (k at n : ℕ) (out ys st : List ℕ) → (n, ys) ≡ put s (lent at out)
@@ -113,3 +114,20 @@ laid-room (s ∷ ss) k at out st h =
     (laid-room ss (suc k) (at + length s) (take at out ++ f) (set st k (at + length s)) (omega arith)
     ∙ ap₂ (λ (j : ℕ) (o : List ℕ). (j, o, sets st k (endsFrom at (s ∷ ss)))) (omega arith)
     (rw (t, u, append-assoc, append-assoc, length-append s (joined ss), drop-drop)))
+
+-- all of them, in a buffer that has room for any extension
+pub record Whole (ss : List (List ℕ)) (out st : List ℕ) (n : ℕ) (m st₁ : List ℕ) : Type 0 where
+  pub wrote : Wrote maxExtension (joined ss) out n m
+  pub noted : st₁ ≡ sets st 1 (endsFrom 0 ss)
+
+pub whole-laid : (ss : List (List ℕ)) (n : ℕ) (out st m st₁ : List ℕ) → length (joined ss) ≤ maxExtension → maxExtension ≤ length out
+    → (n, m, st₁) ≡ laid ss 1 0 out st → Whole ss out st n m st₁
+whole-laid ss n out st m st₁ h k e =
+    let q : _≡_ {A = Laid} (n, m, st₁) (0 + length (joined ss), front (joined ss) out, sets st 1 (endsFrom 0 ss)) = e ∙ laid-room ss 1 0 out st (omega arith) in
+    let c : n ≡ 0 + length (joined ss) = ap (λ (t : Laid). t .0) q in
+    record { wrote = record { count = omega arith; few = omega arith; bytes = ap (λ (t : Laid). t .1) q }; noted = ap (λ (t : Laid). t .2) q }
+
+pub length-ends : (b : ℕ) (ss : List (List ℕ)) → length (endsFrom b ss) ≡ length ss
+unfolding endsFrom
+length-ends b [] = refl
+length-ends b (s ∷ ss) = ap suc (length-ends (b + length s) ss)

@@ -1,4 +1,6 @@
 pub mod Extension
 pub mod Laid
-pub mod Places
 pub mod Parts
+pub mod Places
+pub mod Ordered
+pub mod Answers

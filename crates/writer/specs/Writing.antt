@@ -28,6 +28,10 @@ concatOf f (p ∷ os) = f p ++ concatOf f os
 unfoldable pub extension : TransportParameters → List ℕ → List ℕ
 extension r os = concatOf (parameterAt r) os
 
+-- no extension of a well-formed record is longer, in bytes (proofs/Extension.antt)
+abbrev pub maxExtension : ℕ
+maxExtension = 314
+
 -- no order given means catalogue order
 unfoldable pub orderOf : WriteOrder → List ℕ
 orderOf o = pick (o .present) (o .places) catalogueOrder

@@ -11,10 +11,6 @@ use Rattle.writer.proofs.Laid.{fits-behind, laid-three}
 use borrow.Author.Needs.{needs}
 use Rattle.writer.proofs.put_11_to_13.Statement.{statement}
 use Rattle.writer.proofs.put_11_to_13.Tie as tie
-use Rattle.writer.proofs.put_11_to_13.Reads as reads
-use Rattle.writer.proofs.put_11_to_13.Lts as lts
-use Rattle.wire.proofs.put_value.Reads as put-value-reads
-use Rattle.writer.proofs.put_reserved.Reads as put-reserved-reads
 
 room : (c : tie.After-slice-known2) → length (c .before .before .before .before .before .before .before .args .out .now) < 2 ^ 64
 room c = omega arith
@@ -29,91 +25,69 @@ two c = put-behind _ _ _ _ _ (one (c .before .before .before .before .before) .w
 three : (c : tie.After-slice-known4) → Behind (c .before .before .before .before .before .before .before .before .before .before .before .before .before .before .before .before .before .args .at + c .before .before .before .before .before .before .before .before .before .before .before .before .put-reserved .result + c .before .before .before .before .before .before .before .put-value .result) (c .before .before .put-value2 .result) (back (c .before .before .before .before .before .before .before .before .before .before .before .before .before .before .before .before .before .args .at + c .before .before .before .before .before .before .before .before .before .before .before .before .put-reserved .result) (back (c .before .before .before .before .before .before .before .before .before .before .before .before .before .before .before .before .before .args .at) (c .before .before .before .before .before .before .before .before .before .before .before .before .before .before .before .before .before .args .out .now) (c .before .before .before .before .before .before .before .before .before .before .before .before .put-reserved .last .1 .0)) (c .before .before .before .before .before .before .before .put-value .last .1 .1 .1 .0)) (c .before .before .put-value2 .last .1 .1 .1 .0)
 three c = put-behind _ _ _ _ _ (two (c .before .before .before .before .before) .within) (c .before .before .put-value2 .ensures)
 
--- src/lib.rt:170:34
 sub-put-reserved : tie.Need-sub-put-reserved
 sub-put-reserved c = search needs
 
--- src/lib.rt:170:34
 part-put-reserved-start : tie.Need-part-put-reserved-start
 part-put-reserved-start c = search needs
 
--- src/lib.rt:170:34
 part-put-reserved-end : tie.Need-part-put-reserved-end
 part-put-reserved-end c = search needs
 
--- src/lib.rt:170:18
 put-reserved-requires : tie.Need-put-reserved-requires
 put-reserved-requires c κs = search needs
 
--- src/lib.rt:170:13
 add-a : tie.Need-add-a
 add-a c = fits-behind (one c) (refl) (room c)
 
--- src/lib.rt:171:48
 slice-aggregate-put-value : tie.Need-slice-aggregate-put-value
 slice-aggregate-put-value c = search needs
 
--- src/lib.rt:171:56
 sub-put-value : tie.Need-sub-put-value
 sub-put-value c = one (c .before) .within
 
--- src/lib.rt:171:56
 part-put-value-start : tie.Need-part-put-value-start
 part-put-value-start c = one (c .before) .within
 
--- src/lib.rt:171:56
 part-put-value-end : tie.Need-part-put-value-end
 part-put-value-end c = search needs
 
--- src/lib.rt:171:17
 put-value-requires : tie.Need-put-value-requires
 put-value-requires c κs = search needs
 
--- src/lib.rt:171:13
 add-b : tie.Need-add-b
 add-b c = fits-behind (two c) (one (c .before .before .before .before .before) .same) (room (c .before .before .before .before .before))
 
--- src/lib.rt:172:54
 slice-aggregate-put-value-2 : tie.Need-slice-aggregate-put-value-2
 slice-aggregate-put-value-2 c = search needs
 
--- src/lib.rt:172:59
 sub-put-value-2 : tie.Need-sub-put-value-2
 sub-put-value-2 c = two (c .before) .within
 
--- src/lib.rt:172:59
 part-put-value-start-2 : tie.Need-part-put-value-start-2
 part-put-value-start-2 c = two (c .before) .within
 
--- src/lib.rt:172:59
 part-put-value-end-2 : tie.Need-part-put-value-end-2
 part-put-value-end-2 c = search needs
 
--- src/lib.rt:172:19
 put-value-requires-2 : tie.Need-put-value-requires-2
 put-value-requires-2 c κs = search needs
 
--- src/lib.rt:172:15
 add-end : tie.Need-add-end
 add-end c = fits-behind (three c) (two (c .before .before .before .before .before) .same ∙ one (c .before .before .before .before .before .before .before .before .before .before) .same) (room (c .before .before .before .before .before .before .before .before .before .before))
 
--- src/lib.rt:173:5
 element-write-starts : tie.Need-element-write-starts
 element-write-starts c = search needs
 
--- src/lib.rt:174:5
 element-write-starts-2 : tie.Need-element-write-starts-2
 element-write-starts-2 c = search needs
 
--- src/lib.rt:175:5
 element-write-starts-3 : tie.Need-element-write-starts-3
 element-write-starts-3 c = search needs
 
--- src/lib.rt:155:1
 same-length : tie.Need-same-length
 same-length c = search needs
 
--- src/lib.rt:155:1
 returns : tie.Need-returns
 unfolding laid idAt ids
 returns c = 

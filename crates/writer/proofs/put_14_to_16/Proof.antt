@@ -11,13 +11,6 @@ use Rattle.writer.proofs.Laid.{fits-behind, laid-three}
 use borrow.Author.Needs.{needs}
 use Rattle.writer.proofs.put_14_to_16.Statement.{statement}
 use Rattle.writer.proofs.put_14_to_16.Tie as tie
-use Rattle.writer.proofs.put_14_to_16.Reads as reads
-use Rattle.writer.proofs.put_14_to_16.Lts as lts
-use Rattle.record.proofs.OptionalNumber.is_present.Reads as is-present-reads
-use Rattle.record.proofs.OptionalNumber.or_zero.Reads as or-zero-reads
-use Rattle.wire.proofs.put_number.Reads as put-number-reads
-use Rattle.writer.proofs.put_address.Reads as put-address-reads
-use Rattle.writer.proofs.put_cid.Reads as put-cid-reads
 
 room : (c : tie.After-slice-known2) → length (c .before .before .before .before .before .before .before .args .out .now) < 2 ^ 64
 room c = omega arith
@@ -32,91 +25,69 @@ two c = put-behind _ _ _ _ _ (one (c .before .before .before .before) .within) (
 three : (c : tie.After-slice-known4) → Behind (c .before .before .before .before .before .before .before .before .before .before .before .before .before .before .before .args .at + c .before .before .before .before .before .before .before .before .before .before .put-number .result + c .before .before .before .before .before .before .put-address .result) (c .before .before .put-cid .result) (back (c .before .before .before .before .before .before .before .before .before .before .before .before .before .before .before .args .at + c .before .before .before .before .before .before .before .before .before .before .put-number .result) (back (c .before .before .before .before .before .before .before .before .before .before .before .before .before .before .before .args .at) (c .before .before .before .before .before .before .before .before .before .before .before .before .before .before .before .args .out .now) (c .before .before .before .before .before .before .before .before .before .before .put-number .last .1 .1 .1 .0)) (c .before .before .before .before .before .before .put-address .last .1 .0)) (c .before .before .put-cid .last .1 .1 .0)
 three c = put-behind _ _ _ _ _ (two (c .before .before .before .before) .within) (c .before .before .put-cid .ensures)
 
--- src/lib.rt:192:29
 is-present-requires : tie.Need-is-present-requires
 is-present-requires c κs = search needs
 
--- src/lib.rt:192:58
 or-zero-requires : tie.Need-or-zero-requires
 or-zero-requires c κs = search needs
 
--- src/lib.rt:192:71
 sub-put-number : tie.Need-sub-put-number
 sub-put-number c = search needs
 
--- src/lib.rt:192:71
 part-put-number-start : tie.Need-part-put-number-start
 part-put-number-start c = search needs
 
--- src/lib.rt:192:71
 part-put-number-end : tie.Need-part-put-number-end
 part-put-number-end c = search needs
 
--- src/lib.rt:192:18
 put-number-requires : tie.Need-put-number-requires
 put-number-requires c κs = search needs
 
--- src/lib.rt:192:13
 add-a : tie.Need-add-a
 add-a c = fits-behind (one c) (refl) (room c)
 
--- src/lib.rt:193:32
 sub-put-address : tie.Need-sub-put-address
 sub-put-address c = one c .within
 
--- src/lib.rt:193:32
 part-put-address-start : tie.Need-part-put-address-start
 part-put-address-start c = one c .within
 
--- src/lib.rt:193:32
 part-put-address-end : tie.Need-part-put-address-end
 part-put-address-end c = search needs
 
--- src/lib.rt:193:17
 put-address-requires : tie.Need-put-address-requires
 put-address-requires c κs = search needs
 
--- src/lib.rt:193:13
 add-b : tie.Need-add-b
 add-b c = fits-behind (two c) (one (c .before .before .before .before) .same) (room (c .before .before .before .before))
 
--- src/lib.rt:194:50
 sub-put-cid : tie.Need-sub-put-cid
 sub-put-cid c = two c .within
 
--- src/lib.rt:194:50
 part-put-cid-start : tie.Need-part-put-cid-start
 part-put-cid-start c = two c .within
 
--- src/lib.rt:194:50
 part-put-cid-end : tie.Need-part-put-cid-end
 part-put-cid-end c = search needs
 
--- src/lib.rt:194:19
 put-cid-requires : tie.Need-put-cid-requires
 put-cid-requires c κs = search needs
 
--- src/lib.rt:194:15
 add-end : tie.Need-add-end
 add-end c = fits-behind (three c) (two (c .before .before .before .before) .same ∙ one (c .before .before .before .before .before .before .before .before) .same) (room (c .before .before .before .before .before .before .before .before))
 
--- src/lib.rt:195:5
 element-write-starts : tie.Need-element-write-starts
 element-write-starts c = search needs
 
--- src/lib.rt:196:5
 element-write-starts-2 : tie.Need-element-write-starts-2
 element-write-starts-2 c = search needs
 
--- src/lib.rt:197:5
 element-write-starts-3 : tie.Need-element-write-starts-3
 element-write-starts-3 c = search needs
 
--- src/lib.rt:179:1
 same-length : tie.Need-same-length
 same-length c = search needs
 
--- src/lib.rt:179:1
 returns : tie.Need-returns
 unfolding laid idAt ids
 returns c = 

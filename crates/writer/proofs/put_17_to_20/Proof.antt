@@ -11,13 +11,6 @@ use Rattle.writer.proofs.Laid.{fits-behind, laid-four}
 use borrow.Author.Needs.{needs}
 use Rattle.writer.proofs.put_17_to_20.Statement.{statement}
 use Rattle.writer.proofs.put_17_to_20.Tie as tie
-use Rattle.writer.proofs.put_17_to_20.Reads as reads
-use Rattle.writer.proofs.put_17_to_20.Lts as lts
-use Rattle.record.proofs.OptionalNumber.is_present.Reads as is-present-reads
-use Rattle.record.proofs.OptionalNumber.or_zero.Reads as or-zero-reads
-use Rattle.wire.proofs.put_number.Reads as put-number-reads
-use Rattle.wire.proofs.put_value.Reads as put-value-reads
-use Rattle.writer.proofs.put_cid.Reads as put-cid-reads
 
 room : (c : tie.After-slice-known2) → length (c .before .before .before .before .before .args .out .now) < 2 ^ 64
 room c = omega arith
@@ -35,119 +28,90 @@ three c = put-behind _ _ _ _ _ (two (c .before .before .before .before .before) 
 four : (c : tie.After-slice-known5) → Behind (c .before .before .before .before .before .before .before .before .before .before .before .before .before .before .before .before .before .before .before .before .args .at + c .before .before .before .before .before .before .before .before .before .before .before .before .before .before .before .before .before .put-cid .result + c .before .before .before .before .before .before .before .before .before .before .before .before .before .put-cid2 .result + c .before .before .before .before .before .before .before .before .put-value .result) (c .before .before .put-number .result) (back (c .before .before .before .before .before .before .before .before .before .before .before .before .before .before .before .before .before .before .before .before .args .at + c .before .before .before .before .before .before .before .before .before .before .before .before .before .before .before .before .before .put-cid .result + c .before .before .before .before .before .before .before .before .before .before .before .before .before .put-cid2 .result) (back (c .before .before .before .before .before .before .before .before .before .before .before .before .before .before .before .before .before .before .before .before .args .at + c .before .before .before .before .before .before .before .before .before .before .before .before .before .before .before .before .before .put-cid .result) (back (c .before .before .before .before .before .before .before .before .before .before .before .before .before .before .before .before .before .before .before .before .args .at) (c .before .before .before .before .before .before .before .before .before .before .before .before .before .before .before .before .before .before .before .before .args .out .now) (c .before .before .before .before .before .before .before .before .before .before .before .before .before .before .before .before .before .put-cid .last .1 .1 .0)) (c .before .before .before .before .before .before .before .before .before .before .before .before .before .put-cid2 .last .1 .1 .0)) (c .before .before .before .before .before .before .before .before .put-value .last .1 .1 .1 .0)) (c .before .before .put-number .last .1 .1 .1 .0)
 four c = put-behind _ _ _ _ _ (three (c .before .before .before .before .before .before) .within) (c .before .before .put-number .ensures)
 
--- src/lib.rt:215:47
 sub-put-cid : tie.Need-sub-put-cid
 sub-put-cid c = search needs
 
--- src/lib.rt:215:47
 part-put-cid-start : tie.Need-part-put-cid-start
 part-put-cid-start c = search needs
 
--- src/lib.rt:215:47
 part-put-cid-end : tie.Need-part-put-cid-end
 part-put-cid-end c = search needs
 
--- src/lib.rt:215:18
 put-cid-requires : tie.Need-put-cid-requires
 put-cid-requires c κs = search needs
 
--- src/lib.rt:215:13
 add-a : tie.Need-add-a
 add-a c = fits-behind (one c) (refl) (room c)
 
--- src/lib.rt:216:42
 sub-put-cid-2 : tie.Need-sub-put-cid-2
 sub-put-cid-2 c = one c .within
 
--- src/lib.rt:216:42
 part-put-cid-start-2 : tie.Need-part-put-cid-start-2
 part-put-cid-start-2 c = one c .within
 
--- src/lib.rt:216:42
 part-put-cid-end-2 : tie.Need-part-put-cid-end-2
 part-put-cid-end-2 c = search needs
 
--- src/lib.rt:216:17
 put-cid-requires-2 : tie.Need-put-cid-requires-2
 put-cid-requires-2 c κs = search needs
 
--- src/lib.rt:216:13
 add-b : tie.Need-add-b
 add-b c = fits-behind (two c) (one (c .before .before .before .before) .same) (room (c .before .before .before .before))
 
--- src/lib.rt:217:46
 slice-aggregate-put-value : tie.Need-slice-aggregate-put-value
 slice-aggregate-put-value c = search needs
 
--- src/lib.rt:217:51
 sub-put-value : tie.Need-sub-put-value
 sub-put-value c = two (c .before) .within
 
--- src/lib.rt:217:51
 part-put-value-start : tie.Need-part-put-value-start
 part-put-value-start c = two (c .before) .within
 
--- src/lib.rt:217:51
 part-put-value-end : tie.Need-part-put-value-end
 part-put-value-end c = search needs
 
--- src/lib.rt:217:17
 put-value-requires : tie.Need-put-value-requires
 put-value-requires c κs = search needs
 
--- src/lib.rt:217:13
 add-e : tie.Need-add-e
 add-e c = fits-behind (three c) (two (c .before .before .before .before .before) .same ∙ one (c .before .before .before .before .before .before .before .before .before) .same) (room (c .before .before .before .before .before .before .before .before .before))
 
--- src/lib.rt:218:30
 is-present-requires : tie.Need-is-present-requires
 is-present-requires c κs = search needs
 
--- src/lib.rt:218:64
 or-zero-requires : tie.Need-or-zero-requires
 or-zero-requires c κs = search needs
 
--- src/lib.rt:218:81
 sub-put-number : tie.Need-sub-put-number
 sub-put-number c = three (c .before .before) .within
 
--- src/lib.rt:218:81
 part-put-number-start : tie.Need-part-put-number-start
 part-put-number-start c = three (c .before .before) .within
 
--- src/lib.rt:218:81
 part-put-number-end : tie.Need-part-put-number-end
 part-put-number-end c = search needs
 
--- src/lib.rt:218:19
 put-number-requires : tie.Need-put-number-requires
 put-number-requires c κs = search needs
 
--- src/lib.rt:218:15
 add-end : tie.Need-add-end
 add-end c = fits-behind (four c) (three (c .before .before .before .before .before .before) .same ∙ two (c .before .before .before .before .before .before .before .before .before .before .before) .same ∙ one (c .before .before .before .before .before .before .before .before .before .before .before .before .before .before .before) .same) (room (c .before .before .before .before .before .before .before .before .before .before .before .before .before .before .before))
 
--- src/lib.rt:219:5
 element-write-starts : tie.Need-element-write-starts
 element-write-starts c = search needs
 
--- src/lib.rt:220:5
 element-write-starts-2 : tie.Need-element-write-starts-2
 element-write-starts-2 c = search needs
 
--- src/lib.rt:221:5
 element-write-starts-3 : tie.Need-element-write-starts-3
 element-write-starts-3 c = search needs
 
--- src/lib.rt:222:5
 element-write-starts-4 : tie.Need-element-write-starts-4
 element-write-starts-4 c = search needs
 
--- src/lib.rt:201:1
 same-length : tie.Need-same-length
 same-length c = search needs
 
--- src/lib.rt:201:1
 returns : tie.Need-returns
 unfolding laid idAt ids
 returns c = 

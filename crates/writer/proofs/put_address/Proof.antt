@@ -10,40 +10,28 @@ use Rattle.writer.proofs.Parts.{address-id}
 use borrow.Author.Needs.{needs}
 use Rattle.writer.proofs.put_address.Statement.{statement}
 use Rattle.writer.proofs.put_address.Tie as tie
-use Rattle.writer.proofs.put_address.Reads as reads
-use Rattle.writer.proofs.put_address.Lts as lts
-use Rattle.wire.proofs.put_value.Reads as put-value-reads
-use Rattle.writer.proofs.put_address_value.Reads as put-address-value-reads
 
--- src/lib.rt:93:9
 returns : tie.Need-returns
 returns c = rw (not-due _ _ _ (not-true _ (c .if1 .taken))) (put-nil _)
 
--- src/lib.rt:100:51
 slice-aggregate-put-address-value : tie.Need-slice-aggregate-put-address-value
 slice-aggregate-put-address-value c = search needs
 
--- src/lib.rt:100:9
 put-address-value-requires : tie.Need-put-address-value-requires
 put-address-value-requires c κs = let s = c .before .before .before .before .before .before .before .before in (address-id (s .args .a) (s .pre), omega arith)
 
--- src/lib.rt:101:33
 array-share-prefix-value : tie.Need-array-share-prefix-value
 array-share-prefix-value c = search needs
 
--- src/lib.rt:101:33
 slice-aggregate-put-value : tie.Need-slice-aggregate-put-value
 slice-aggregate-put-value c = let w = c .before .before .put-address-value .ensures in w .count ∙ ap length (sym (whole-part _ _ _ _ _ w))
 
--- src/lib.rt:101:5
 put-value-requires : tie.Need-put-value-requires
 put-value-requires c κs = search needs
 
--- src/lib.rt:88:1
 same-length : tie.Need-same-length
 same-length c = search needs
 
--- src/lib.rt:88:1
 returns-2 : tie.Need-returns-2
 unfolding idAt ids
 returns-2 c = 

@@ -6,40 +6,28 @@ use Rattle.wire.proofs.Stored.{wrote-as, wrote-then}
 use borrow.Author.Needs.{needs}
 use Rattle.writer.proofs.put_address_value.Statement.{statement}
 use Rattle.writer.proofs.put_address_value.Tie as tie
-use Rattle.writer.proofs.put_address_value.Reads as reads
-use Rattle.writer.proofs.put_address_value.Lts as lts
-use Rattle.writer.proofs.put_cid_and_token.Reads as put-cid-and-token-reads
-use Rattle.writer.proofs.put_families.Reads as put-families-reads
 
--- src/lib.rt:116:5
 put-families-requires : tie.Need-put-families-requires
 put-families-requires c κs = search needs
 
--- src/lib.rt:117:40
 sub-put-cid-and-token : tie.Need-sub-put-cid-and-token
 sub-put-cid-and-token c = search needs
 
--- src/lib.rt:117:40
 part-put-cid-and-token-start : tie.Need-part-put-cid-and-token-start
 part-put-cid-and-token-start c = search needs
 
--- src/lib.rt:117:40
 part-put-cid-and-token-end : tie.Need-part-put-cid-and-token-end
 part-put-cid-and-token-end c = search needs
 
--- src/lib.rt:117:10
 put-cid-and-token-requires : tie.Need-put-cid-and-token-requires
 put-cid-and-token-requires c κs = search needs
 
--- src/lib.rt:117:5
 add-result : tie.Need-add-result
 add-result c = search needs
 
--- src/lib.rt:105:1
 same-length : tie.Need-same-length
 same-length c = search needs
 
--- src/lib.rt:105:1
 returns : tie.Need-returns
 returns c = 
     let s = c .before .before .before .before .before .before .before .before .before in

@@ -6,12 +6,6 @@ use Rattle.writer.proofs.Places.{formed, whole-catalogue}
 use borrow.Author.Needs.{needs}
 use Rattle.writer.proofs.put_catalogue.Statement.{statement}
 use Rattle.writer.proofs.put_catalogue.Tie as tie
-use Rattle.writer.proofs.put_catalogue.Reads as reads
-use Rattle.writer.proofs.put_catalogue.Lts as lts
-use Rattle.writer.proofs.put_11_to_13.Reads as put-11-to-13-reads
-use Rattle.writer.proofs.put_14_to_16.Reads as put-14-to-16-reads
-use Rattle.writer.proofs.put_17_to_20.Reads as put-17-to-20-reads
-use Rattle.writer.proofs.put_numbers.Reads as put-numbers-reads
 
 -- how far each goes
 one : (c : tie.After-put-11-to-13-arg2) → Within 0 (c .before .before .before .before .before .before .before .before .before .before .before .before .before .before .before .before .args .out .now) (c .before .before .before .before .before .before .before .before .before .before .before .before .before .before .before .before .args .starts .now) (c .before .before .before .before .put-numbers .result, c .before .before .before .before .put-numbers .last .1 .1 .0, c .before .before .before .before .put-numbers .last .1 .0)
@@ -25,15 +19,12 @@ three : (c : tie.After-put-17-to-20-arg2)
     → Within (c .before .before .before .before .before .before .before .before .before .put-11-to-13 .result) (c .before .before .before .before .before .before .before .before .before .put-11-to-13 .last .1 .1 .1 .1 .1 .0) (c .before .before .before .before .before .before .before .before .before .put-11-to-13 .last .1 .1 .1 .1 .0) (c .before .before .before .before .put-14-to-16 .result, c .before .before .before .before .put-14-to-16 .last .1 .1 .1 .1 .1 .0, c .before .before .before .before .put-14-to-16 .last .1 .1 .1 .1 .0)
 three c = laid-within _ 15 _ _ _ _ _ _ (two (c .before .before .before .before .before) .0) (c .before .before .before .before .put-14-to-16 .ensures)
 
--- src/lib.rt:241:9
 put-numbers-requires : tie.Need-put-numbers-requires
 put-numbers-requires c κs = search needs
 
--- src/lib.rt:242:9
 put-11-to-13-requires : tie.Need-put-11-to-13-requires
 put-11-to-13-requires c κs = let s = c .before .before .before .before .before .before .before .before .before .before .before .before .before .before .before .before in let w = one c in (formed _ (s .pre .0) .reserved, w .0, w .2 ∙ s .pre .1)
 
--- src/lib.rt:243:9
 put-14-to-16-requires : tie.Need-put-14-to-16-requires
 put-14-to-16-requires c κs = 
     let s = c .before .before .before .before .before .before .before .before .before .before .before .before .before .before .before .before .before .before .before .before .before in
@@ -41,7 +32,6 @@ put-14-to-16-requires c κs =
     let w = two c in
     (f .address, f .original, w .0, w .2 ∙ one (c .before .before .before .before .before) .2 ∙ s .pre .1)
 
--- src/lib.rt:244:5
 put-17-to-20-requires : tie.Need-put-17-to-20-requires
 put-17-to-20-requires c κs = 
     let s = c .before .before .before .before .before .before .before .before .before .before .before .before .before .before .before .before .before .before .before .before .before .before .before .before .before .before in
@@ -49,11 +39,9 @@ put-17-to-20-requires c κs =
     let w = three c in
     (f .initial, f .retry, w .0, w .2 ∙ two (c .before .before .before .before .before) .2 ∙ one (c .before .before .before .before .before .before .before .before .before .before) .2 ∙ s .pre .1)
 
--- src/lib.rt:227:1
 same-length : tie.Need-same-length
 same-length c = search needs
 
--- src/lib.rt:227:1
 returns : tie.Need-returns
 returns c = 
     let s = c .before .before .before .before .before .before .before .before .before .before .before .before .before .before .before .before .before .before .before .before .before .before .before .before .before .before .before .before .before in

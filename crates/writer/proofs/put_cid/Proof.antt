@@ -3,32 +3,22 @@ use Rattle.writer.proofs.Parts.{prefix, cid-room}
 use borrow.Author.Needs.{needs}
 use Rattle.writer.proofs.put_cid.Statement.{statement}
 use Rattle.writer.proofs.put_cid.Tie as tie
-use Rattle.writer.proofs.put_cid.Reads as reads
-use Rattle.writer.proofs.put_cid.Lts as lts
-use Rattle.wire.proofs.put_value.Reads as put-value-reads
-use Rattle.writer.proofs.wide.Reads as wide-reads
 
--- src/lib.rt:74:9
 wide-requires : tie.Need-wide-requires
 wide-requires c κs = search needs
 
--- src/lib.rt:76:30
 array-share-prefix-bytes : tie.Need-array-share-prefix-bytes
 array-share-prefix-bytes c = let s = c .before .before .before .before in prefix _ _ (s .args .o .cid .bytes) (cid-room (s .args .o) (s .pre)) (c .before .wide .ensures) .0
 
--- src/lib.rt:76:30
 slice-aggregate-put-value : tie.Need-slice-aggregate-put-value
 slice-aggregate-put-value c = let s = c .before .before .before .before .before in prefix _ _ (s .args .o .cid .bytes) (cid-room (s .args .o) (s .pre)) (c .before .before .wide .ensures) .1
 
--- src/lib.rt:76:5
 put-value-requires : tie.Need-put-value-requires
 put-value-requires c κs = search needs
 
--- src/lib.rt:69:1
 same-length : tie.Need-same-length
 same-length c = search needs
 
--- src/lib.rt:69:1
 returns : tie.Need-returns
 returns c = rw (← c .before .before .before .before .before .before .wide .ensures) (c .before .before .put-value .ensures)
 

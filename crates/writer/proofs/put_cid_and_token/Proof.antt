@@ -12,10 +12,6 @@ use Rattle.writer.proofs.Parts.{cid-encoded, cid-never, token-behind}
 use borrow.Author.Needs.{needs}
 use Rattle.writer.proofs.put_cid_and_token.Statement.{statement}
 use Rattle.writer.proofs.put_cid_and_token.Tie as tie
-use Rattle.writer.proofs.put_cid_and_token.Reads as reads
-use Rattle.writer.proofs.put_cid_and_token.Lts as lts
-use Rattle.connection_id.proofs.ConnectionId.encode_long.Reads as encode-long-reads
-use Rattle.wire.proofs.put_bytes.Reads as put-bytes-reads
 
 -- what the type says, and what the answer says
 known : (c : tie.Start) → length (c .args .token .bytes) ≡ 16
@@ -30,55 +26,42 @@ stored c =
     let s = c .before .before .before .before .before .before .before .before .before .before .before .before .before .before in
     token-behind _ _ _ _ (s .args .out .now) _ _ (s .pre .1) (known s) (kept (c .before .before .before .before .before)) (c .before .before .put-bytes .ensures)
 
--- src/lib.rt:144:30
 encode-long-requires : tie.Need-encode-long-requires
 encode-long-requires c κs = search needs
 
--- src/lib.rt:144:24
 enum-known-at : tie.Need-enum-known-at
 enum-known-at c = search needs
 
--- src/lib.rt:145:9
 enum-told : tie.Need-enum-told
 enum-told c = search needs
 
--- src/lib.rt:145:9
 same-length : tie.Need-same-length
 same-length c = search needs
 
--- src/lib.rt:145:9
 returns : tie.Need-returns
 returns c = let s = c .before .before .before .before .before .before .before .before in cid-never _ _ (s .args .out .now) _ (s .pre .0) (omega arith) (c .before .before .before .before .encode-long .ensures) _ (ap countOutcome (c .enum-told .given .1))
 
--- src/lib.rt:147:20
 slice-aggregate-put-bytes : tie.Need-slice-aggregate-put-bytes
 slice-aggregate-put-bytes c = search needs
 
--- src/lib.rt:147:28
 sub-put-bytes : tie.Need-sub-put-bytes
 sub-put-bytes c = omega (arith, kept (c .before) .few)
 
--- src/lib.rt:147:28
 part-put-bytes-start : tie.Need-part-put-bytes-start
 part-put-bytes-start c = omega (arith, kept (c .before) .few)
 
--- src/lib.rt:147:28
 part-put-bytes-end : tie.Need-part-put-bytes-end
 part-put-bytes-end c = search needs
 
--- src/lib.rt:147:10
 put-bytes-requires : tie.Need-put-bytes-requires
 put-bytes-requires c κs = search needs
 
--- src/lib.rt:147:5
 add-result : tie.Need-add-result
 add-result c = omega (arith, stored c .few)
 
--- src/lib.rt:139:1
 same-length-2 : tie.Need-same-length-2
 same-length-2 c = search needs
 
--- src/lib.rt:139:1
 returns-2 : tie.Need-returns-2
 returns-2 c = stored c
 

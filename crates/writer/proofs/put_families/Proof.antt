@@ -8,47 +8,35 @@ use Rattle.writer.proofs.Parts.{family-wrote}
 use borrow.Author.Needs.{needs}
 use Rattle.writer.proofs.put_families.Statement.{statement}
 use Rattle.writer.proofs.put_families.Tie as tie
-use Rattle.writer.proofs.put_families.Reads as reads
-use Rattle.writer.proofs.put_families.Lts as lts
-use Rattle.writer.proofs.put_family.Reads as put-family-reads
 
 -- what the types say
 known : (c : tie.Start) → (length (c .args .v4 .ip) ≡ 4) × (length (c .args .v6 .ip) ≡ 16)
 known c = (search needs, search needs)
 
--- src/lib.rt:126:16
 slice-aggregate-put-family : tie.Need-slice-aggregate-put-family
 slice-aggregate-put-family c = search needs
 
--- src/lib.rt:126:5
 put-family-requires : tie.Need-put-family-requires
 put-family-requires c κs = omega (arith, known (c .before .before .before .before .before) .0)
 
--- src/lib.rt:127:16
 slice-aggregate-put-family-2 : tie.Need-slice-aggregate-put-family-2
 slice-aggregate-put-family-2 c = search needs
 
--- src/lib.rt:127:31
 sub-put-family : tie.Need-sub-put-family
 sub-put-family c = search needs
 
--- src/lib.rt:127:31
 part-put-family-start : tie.Need-part-put-family-start
 part-put-family-start c = search needs
 
--- src/lib.rt:127:31
 part-put-family-end : tie.Need-part-put-family-end
 part-put-family-end c = search needs
 
--- src/lib.rt:127:5
 put-family-requires-2 : tie.Need-put-family-requires-2
 put-family-requires-2 c κs = behind _ 6 (c .before .before .before .before .put-family .last .1 .1 .0) (omega (arith, known (c .before .before .before .before .before .before .before .before .before .before) .1))
 
--- src/lib.rt:120:1
 same-length : tie.Need-same-length
 same-length c = search needs
 
--- src/lib.rt:120:1
 returns : tie.Need-returns
 returns c = 
     let s = c .before .before .before .before .before .before .before .before .before .before .before .before .before in

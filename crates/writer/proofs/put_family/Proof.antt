@@ -10,9 +10,6 @@ use Rattle.writer.proofs.Parts.{family-stored}
 use borrow.Author.Needs.{needs}
 use Rattle.writer.proofs.put_family.Statement.{statement}
 use Rattle.writer.proofs.put_family.Tie as tie
-use Rattle.writer.proofs.put_family.Reads as reads
-use Rattle.writer.proofs.put_family.Lts as lts
-use Rattle.wire.proofs.put_bytes.Reads as put-bytes-reads
 
 -- the address, and the port behind it
 kept : (c : tie.After-slice-known2) → (c .before .before .put-bytes .result ≡ length (c .before .before .before .before .before .before .args .ip .now))
@@ -20,35 +17,27 @@ kept : (c : tie.After-slice-known2) → (c .before .before .put-bytes .result �
     ≡ front (c .before .before .before .before .before .before .args .ip .now ++ bytesOf 2 (c .before .before .before .before .before .before .args .port)) (c .before .before .before .before .before .before .args .out .now))
 kept c = family-stored _ _ _ (c .before .before .before .before .before .before .args .out .now) _ (c .before .before .before .before .before .before .pre) (omega arith) (c .before .before .put-bytes .ensures)
 
--- src/lib.rt:134:9
 put-bytes-requires : tie.Need-put-bytes-requires
 put-bytes-requires c κs = search needs
 
--- src/lib.rt:135:14
 cast-out : tie.Need-cast-out
 cast-out c = search needs
 
--- src/lib.rt:135:5
 slice-write-out : tie.Need-slice-write-out
 slice-write-out c = omega (arith, kept c .0)
 
--- src/lib.rt:136:18
 cast-out-2 : tie.Need-cast-out-2
 cast-out-2 c = search needs
 
--- src/lib.rt:136:9
 add-out : tie.Need-add-out
 add-out c = omega (arith, kept c .0)
 
--- src/lib.rt:136:5
 slice-write-out-2 : tie.Need-slice-write-out-2
 slice-write-out-2 c = simp length-set (omega (arith, kept c .0))
 
--- src/lib.rt:130:1
 same-length : tie.Need-same-length
 same-length c = search needs
 
--- src/lib.rt:130:1
 returns : tie.Need-returns
 returns c = kept c .1
 

@@ -11,9 +11,6 @@ use Rattle.writer.specs.Laid.{laid}
 use Rattle.writer.proofs.Laid.{number-more}
 use Rattle.writer.proofs.put_numbers.Statement.{statement}
 use Rattle.writer.proofs.put_numbers.Tie as tie
-use Rattle.writer.proofs.put_numbers.Reads as reads
-use Rattle.writer.proofs.put_numbers.Lts as lts
-use Rattle.wire.proofs.put_number.Reads as put-number-reads
 
 abbrev Inv-loop : tie.InvT-loop
 Inv-loop numbers starts₀ out₀ ids defaults at₀ i₀ starts out at i = (i ≤ 11) × (at ≤ length out) × (length out ≡ length out₀) × (length starts ≡ 22) × ((at, out, starts) ≡ laid (each (numberAt numbers) i) 1 0 out₀ starts₀)
@@ -25,80 +22,61 @@ abbrev μ-loop : tie.MeasureT-loop
 kept : (c : tie.After-slice-known2 Inv-loop μ-loop) → Behind (c .before .before .before .before .before .before .before .loop .at) (c .before .before .put-number .result) (c .before .before .before .before .before .before .before .loop .out) (c .before .before .put-number .last .1 .1 .1 .0)
 kept c = put-behind _ _ _ _ _ (c .before .before .before .before .before .before .before .loop .inv .1) (c .before .before .put-number .ensures)
 
--- src/lib.rt:147:5
 loop-holds : tie.Need-loop-holds Inv-loop μ-loop
 unfolding each laid
 loop-holds c = (omega arith, omega arith, refl, c .before .pre .1, refl)
 
--- src/lib.rt:148:26
 mul-put-number : tie.Need-mul-put-number Inv-loop μ-loop
 mul-put-number c = omega arith
 
--- src/lib.rt:148:26
 element-copy-out-put-number : tie.Need-element-copy-out-put-number Inv-loop μ-loop
 element-copy-out-put-number c = omega arith
 
--- src/lib.rt:148:40
 mul-put-number-2 : tie.Need-mul-put-number-2 Inv-loop μ-loop
 mul-put-number-2 c = omega arith
 
--- src/lib.rt:148:40
 array-read-put-number : tie.Need-array-read-put-number Inv-loop μ-loop
 array-read-put-number c = omega arith
 
--- src/lib.rt:148:53
 mul-put-number-3 : tie.Need-mul-put-number-3 Inv-loop μ-loop
 mul-put-number-3 c = omega arith
 
--- src/lib.rt:148:53
 array-read-put-number-2 : tie.Need-array-read-put-number-2 Inv-loop μ-loop
 array-read-put-number-2 c = omega arith
 
--- src/lib.rt:148:61
 mul-put-number-4 : tie.Need-mul-put-number-4 Inv-loop μ-loop
 mul-put-number-4 c = omega arith
 
--- src/lib.rt:148:61
 element-copy-out-put-number-2 : tie.Need-element-copy-out-put-number-2 Inv-loop μ-loop
 element-copy-out-put-number-2 c = omega arith
 
--- src/lib.rt:148:73
 sub-put-number : tie.Need-sub-put-number Inv-loop μ-loop
 sub-put-number c = omega arith
 
--- src/lib.rt:148:73
 part-put-number-start : tie.Need-part-put-number-start Inv-loop μ-loop
 part-put-number-start c = omega arith
 
--- src/lib.rt:148:73
 part-put-number-end : tie.Need-part-put-number-end Inv-loop μ-loop
 part-put-number-end c = omega arith
 
--- src/lib.rt:148:15
 put-number-requires : tie.Need-put-number-requires Inv-loop μ-loop
 put-number-requires c κs = tt
 
--- src/lib.rt:148:9
 add-at : tie.Need-add-at Inv-loop μ-loop
 add-at c = omega (arith, kept c .within, kept c .same)
 
--- src/lib.rt:149:9
 add-i : tie.Need-add-i Inv-loop μ-loop
 add-i c = omega arith
 
--- src/lib.rt:150:9
 mul-starts : tie.Need-mul-starts Inv-loop μ-loop
 mul-starts c = omega arith
 
--- src/lib.rt:150:9
 element-write-starts : tie.Need-element-write-starts Inv-loop μ-loop
 element-write-starts c = omega arith
 
--- src/lib.rt:147:5
 loop-less : tie.Need-loop-less Inv-loop μ-loop
 loop-less c = omega arith
 
--- src/lib.rt:147:5
 loop-again : tie.Need-loop-again Inv-loop μ-loop
 unfolding numberAt idAt ids defaults
 loop-again c = 
@@ -108,11 +86,9 @@ loop-again c =
     (omega arith, k .within, k .same ∙ l .inv .2, length-set (l .starts) _ _ ∙ l .inv .3,
     number-more (numberAt (a .numbers .now)) (l .i) (l .at) _ (a .out .now) (a .starts .now) (l .out) (l .starts) _ (l .inv .4) (c .before .before .put-number .ensures))
 
--- src/lib.rt:138:1
 same-length : tie.Need-same-length Inv-loop μ-loop
 same-length c = c .before .loop .inv .2
 
--- src/lib.rt:138:1
 returns : tie.Need-returns Inv-loop μ-loop
 returns c = 
     let l = c .before .loop in

@@ -1,99 +1,107 @@
+-- `writer::put_ordered` meets its contract. The invariant: the parameters at the first `k` places of the order stand at the front. Assumes nothing.
+use Prim.Native.Nat.{_-_, _≤_}
+use native.Mathlib.Omega.{arith}
+use mathlib.Core.Path.{_≡_, refl}
+use lib.ListN.{length, take}
+use lib.Seq.{take-all}
+use Rattle.catalogue.specs.Catalogue.{places}
+use Rattle.writer.specs.Writing.{concatOf}
+use Rattle.writer.specs.Laid.{partAt}
+use Rattle.wire.specs.Stored.{Wrote}
+use Rattle.wire.proofs.Stored.{wrote-none, wrote-length}
+use Rattle.wire.proofs.Put.{Behind, put-behind}
+use Rattle.writer.proofs.Ordered.{Part, part-room, ordered-more}
 use Rattle.writer.proofs.put_ordered.Statement.{statement}
 use Rattle.writer.proofs.put_ordered.Tie as tie
-use Rattle.writer.proofs.put_ordered.Reads as reads
-use Rattle.writer.proofs.put_ordered.Lts as lts
-use Rattle.wire.proofs.put_bytes.Reads as put-bytes-reads
-use Rattle.writer.proofs.wide.Reads as wide-reads
 
 abbrev Inv-loop : tie.InvT-loop
-Inv-loop order starts parts out₀ at₀ k₀ out at k = ?
+Inv-loop order starts parts out₀ at₀ k₀ out at k = (k ≤ places) × Wrote (length out₀) (concatOf (partAt starts parts) (take k order)) out₀ at out × (length out ≡ length out₀)
 
 abbrev μ-loop : tie.MeasureT-loop
-μ-loop order starts parts out₀ at₀ k₀ out at k = ?
+μ-loop order starts parts out₀ at₀ k₀ out at k = places - k
 
--- src/lib.rt:255:5
+-- the part of this turn
+this : (c : tie.After-wide Inv-loop μ-loop)
+    → Part (c .before .before .before .before .before .before .args .starts .now) (c .before .before .before .before .before .before .args .parts .now) (c .before .before .before .before .before .before .args .out .now) (c .wide .result) (c .before .before .before .loop .at)
+this c =
+    let s = c .before .before .before .before .before .before in
+    let l = c .before .before .before .loop in
+    part-room (s .args .starts .now) (s .args .parts .now) (s .args .order .now) (s .args .out .now) (l .k) _ (l .at) (s .pre) (omega arith) (l .inv .1 .count) (c .wide .ensures)
+
 loop-holds : tie.Need-loop-holds Inv-loop μ-loop
-loop-holds c = ?
+loop-holds c = (omega arith, wrote-none _ _, refl)
 
--- src/lib.rt:256:22
 element-copy-out-wide : tie.Need-element-copy-out-wide Inv-loop μ-loop
-element-copy-out-wide c = ?
+element-copy-out-wide c = omega arith
 
--- src/lib.rt:256:13
 wide-requires : tie.Need-wide-requires Inv-loop μ-loop
-wide-requires c κs = ?
+wide-requires c κs = tt
 
--- src/lib.rt:257:20
 mul-from : tie.Need-mul-from Inv-loop μ-loop
-mul-from c = ?
+mul-from c = omega (arith, this c .place)
 
--- src/lib.rt:257:20
 element-copy-out-from : tie.Need-element-copy-out-from Inv-loop μ-loop
-element-copy-out-from c = ?
+element-copy-out-from c = omega (arith, this c .place)
 
--- src/lib.rt:258:25
 add-to : tie.Need-add-to Inv-loop μ-loop
-add-to c = ?
+add-to c = omega (arith, this (c .before) .place)
 
--- src/lib.rt:258:18
 mul-to : tie.Need-mul-to Inv-loop μ-loop
-mul-to c = ?
+mul-to c = omega (arith, this (c .before) .place)
 
--- src/lib.rt:258:18
 element-copy-out-to : tie.Need-element-copy-out-to Inv-loop μ-loop
-element-copy-out-to c = ?
+element-copy-out-to c = omega (arith, this (c .before) .place)
 
--- src/lib.rt:259:25
 sub-put-bytes : tie.Need-sub-put-bytes Inv-loop μ-loop
-sub-put-bytes c = ?
+sub-put-bytes c = this (c .before .before) .forward
 
--- src/lib.rt:259:25
 part-put-bytes-start : tie.Need-part-put-bytes-start Inv-loop μ-loop
-part-put-bytes-start c = ?
+part-put-bytes-start c = this (c .before .before) .forward
 
--- src/lib.rt:259:25
 part-put-bytes-end : tie.Need-part-put-bytes-end Inv-loop μ-loop
-part-put-bytes-end c = ?
+part-put-bytes-end c = this (c .before .before) .within
 
--- src/lib.rt:259:43
 sub-put-bytes-2 : tie.Need-sub-put-bytes-2 Inv-loop μ-loop
-sub-put-bytes-2 c = ?
+sub-put-bytes-2 c = omega (arith, this (c .before .before .before) .room)
 
--- src/lib.rt:259:43
 part-put-bytes-start-2 : tie.Need-part-put-bytes-start-2 Inv-loop μ-loop
-part-put-bytes-start-2 c = ?
+part-put-bytes-start-2 c = omega (arith, this (c .before .before .before) .room)
 
--- src/lib.rt:259:43
 part-put-bytes-end-2 : tie.Need-part-put-bytes-end-2 Inv-loop μ-loop
-part-put-bytes-end-2 c = ?
+part-put-bytes-end-2 c = omega arith
 
--- src/lib.rt:259:15
 put-bytes-requires : tie.Need-put-bytes-requires Inv-loop μ-loop
-put-bytes-requires c κs = ?
+put-bytes-requires c κs = tt
 
--- src/lib.rt:259:9
+kept : (c : tie.After-slice-known2 Inv-loop μ-loop) → Behind (c .before .before .before .before .before .before .before .before .before .before .loop .at) (c .before .before .put-bytes .result) (c .before .before .before .before .before .before .before .before .before .before .loop .out) (c .before .before .put-bytes .last .1 .0)
+kept c = let l = c .before .before .before .before .before .before .before .before .before .before .loop in put-behind _ _ _ _ _ (omega (arith, l .inv .1 .few)) (c .before .before .put-bytes .ensures)
+
 add-at : tie.Need-add-at Inv-loop μ-loop
-add-at c = ?
+add-at c = omega (arith, kept c .within, kept c .same)
 
--- src/lib.rt:260:9
 add-k : tie.Need-add-k Inv-loop μ-loop
-add-k c = ?
+add-k c = omega arith
 
--- src/lib.rt:255:5
 loop-less : tie.Need-loop-less Inv-loop μ-loop
-loop-less c = ?
+loop-less c = omega arith
 
--- src/lib.rt:255:5
 loop-again : tie.Need-loop-again Inv-loop μ-loop
-loop-again c = ?
+unfolding partAt
+loop-again c =
+    let s = c .before .before .before .before .before .before .before .before .before .before .before .before .before in
+    let l = c .before .before .before .before .before .before .before .before .before .before .loop in
+    let w = ordered-more (partAt (s .args .starts .now) (s .args .parts .now)) (s .args .order .now) (l .k) (omega (arith, s .pre .long)) (c .before .before .before .before .before .before .before .wide .result) (l .at) _ (s .args .out .now) (l .out) _ (s .pre .room) (l .inv .1) (c .before .before .before .before .before .before .before .wide .ensures) (c .before .before .put-bytes .ensures) in
+    (omega arith, w, wrote-length _ _ _ _ _ (omega arith) w)
 
--- src/lib.rt:248:1
 same-length : tie.Need-same-length Inv-loop μ-loop
-same-length c = ?
+same-length c = c .before .loop .inv .2
 
--- src/lib.rt:248:1
 returns : tie.Need-returns Inv-loop μ-loop
-returns c = ?
+returns c =
+    let l = c .before .loop in
+    let o = c .before .before .before .before .args .order .now in
+    let e : take (l .k) o ≡ o = take-all (l .k) o (omega (arith, c .before .before .before .before .pre .long)) in
+    rw e at (l .inv .1)
 
 pub put-ordered-spec : {M : Type 1} → statement M
 put-ordered-spec =

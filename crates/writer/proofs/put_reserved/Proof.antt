@@ -3,32 +3,22 @@ use Rattle.writer.proofs.Parts.{prefix, payload-room}
 use borrow.Author.Needs.{needs}
 use Rattle.writer.proofs.put_reserved.Statement.{statement}
 use Rattle.writer.proofs.put_reserved.Tie as tie
-use Rattle.writer.proofs.put_reserved.Reads as reads
-use Rattle.writer.proofs.put_reserved.Lts as lts
-use Rattle.wire.proofs.put_value.Reads as put-value-reads
-use Rattle.writer.proofs.wide.Reads as wide-reads
 
--- src/lib.rt:84:9
 wide-requires : tie.Need-wide-requires
 wide-requires c κs = search needs
 
--- src/lib.rt:85:32
 array-share-prefix-payload : tie.Need-array-share-prefix-payload
 array-share-prefix-payload c = let s = c .before .before .before in prefix _ _ (s .args .x .payload) (payload-room (s .args .x) (s .pre)) (c .wide .ensures) .0
 
--- src/lib.rt:85:32
 slice-aggregate-put-value : tie.Need-slice-aggregate-put-value
 slice-aggregate-put-value c = let s = c .before .before .before .before in prefix _ _ (s .args .x .payload) (payload-room (s .args .x) (s .pre)) (c .before .wide .ensures) .1
 
--- src/lib.rt:85:5
 put-value-requires : tie.Need-put-value-requires
 put-value-requires c κs = search needs
 
--- src/lib.rt:79:1
 same-length : tie.Need-same-length
 same-length c = search needs
 
--- src/lib.rt:79:1
 returns : tie.Need-returns
 returns c = rw (← c .before .before .before .before .before .wide .ensures) (c .before .before .put-value .ensures)
 

@@ -1,43 +1,40 @@
+-- `writer::write_in_order` meets its contract: the tests that led to each `return` pick the case of the definition. Assumes nothing.
+use mathlib.Core.Path.{_≡_, sym, _∙_}
+use mathlib.Core.Bool.{true}
+use borrow.Author.Tests.{not-true, not-false}
+use Rattle.record.specs.Record.{wellFormed}
+use Rattle.writer.proofs.Places.{formed}
+use Rattle.writer.proofs.Answers.{write-ill, write-invalid, write-in-order}
 use borrow.Author.Needs.{needs}
 use Rattle.writer.proofs.write_in_order.Statement.{statement}
 use Rattle.writer.proofs.write_in_order.Tie as tie
-use Rattle.writer.proofs.write_in_order.Reads as reads
-use Rattle.writer.proofs.write_in_order.Lts as lts
-use Rattle.order.proofs.is_permutation.Reads as is-permutation-reads
-use Rattle.record.proofs.TransportParameters.is_well_formed.Reads as is-well-formed-reads
-use Rattle.writer.proofs.write_ordered.Reads as write-ordered-reads
 
--- src/lib.rt:301:9
+well : (c : tie.Else1) → wellFormed (c .before .before .before .args .r) ≡ true
+well c = sym (c .before .is-well-formed .ensures) ∙ not-false _ (c .if1 .left)
+
 is-well-formed-requires : tie.Need-is-well-formed-requires
 is-well-formed-requires c κs = search needs
 
--- src/lib.rt:302:9
 returns : tie.Need-returns
-returns c = ?
+returns c = write-ill _ _ (sym (c .before .is-well-formed .ensures) ∙ not-true _ (c .if1 .taken))
 
--- src/lib.rt:305:24
 slice-aggregate-is-permutation : tie.Need-slice-aggregate-is-permutation
-slice-aggregate-is-permutation c = ?
+slice-aggregate-is-permutation c = sym (formed _ (well (c .before .before)) .order)
 
--- src/lib.rt:305:9
 is-permutation-requires : tie.Need-is-permutation-requires
 is-permutation-requires c κs = search needs
 
--- src/lib.rt:306:9
 returns-2 : tie.Need-returns-2
-returns-2 c = ?
+returns-2 c = write-invalid _ _ (well (c .before .before .before .before)) (c .before .before .before .before .before .before .before .pre) (sym (c .before .is-permutation .ensures) ∙ not-true _ (c .if2 .taken))
 
--- src/lib.rt:308:5
 write-ordered-requires : tie.Need-write-ordered-requires
-write-ordered-requires c κs = ?
+write-ordered-requires c κs = (well (c .before .before .before .before .before .before), sym (c .before .before .before .is-permutation .ensures) ∙ not-false _ (c .before .before .if2 .left))
 
--- src/lib.rt:297:1
 same-length : tie.Need-same-length
 same-length c = search needs
 
--- src/lib.rt:297:1
 returns-3 : tie.Need-returns-3
-returns-3 c = ?
+returns-3 c = c .before .before .write-ordered .ensures ∙ write-in-order _ _ (well (c .before .before .before .before .before .before .before .before .before)) (c .before .before .before .before .before .before .before .before .before .before .before .before .pre) (sym (c .before .before .before .before .before .before .is-permutation .ensures) ∙ not-false _ (c .before .before .before .before .before .if2 .left))
 
 pub write-in-order-spec : {M : Type 1} → statement M
 write-in-order-spec =

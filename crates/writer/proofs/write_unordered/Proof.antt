@@ -1,54 +1,63 @@
+-- `writer::write_unordered` meets its contract. Assumes nothing.
+use native.Mathlib.Omega.{arith}
+use mathlib.Core.Path.{ap, sym, _∙_}
+use Prim.Native.Nat.{_≤_}
+use lib.ListN.{length, take, replicate}
+use Rattle.order.proofs.Orders.{in-catalogue}
+use Rattle.writer.proofs.Extension.{longest}
+use Rattle.wire.specs.Stored.{Wrote}
+use Rattle.wire.proofs.Stored.{stored-short, stored-whole, stored-copy, whole-part}
+use Rattle.wire.proofs.Put.{stored}
+use Rattle.writer.specs.Writing.{maxExtension, extension}
+use Rattle.order.specs.Order.{catalogueOrder}
+use Rattle.writer.proofs.Answers.{catalogue-wrote}
 use borrow.Author.Needs.{needs}
 use Rattle.writer.proofs.write_unordered.Statement.{statement}
 use Rattle.writer.proofs.write_unordered.Tie as tie
-use Rattle.writer.proofs.write_unordered.Reads as reads
-use Rattle.writer.proofs.write_unordered.Lts as lts
-use Rattle.wire.proofs.put_bytes.Reads as put-bytes-reads
-use Rattle.writer.proofs.put_catalogue.Reads as put-catalogue-reads
 
--- src/lib.rt:286:31
+-- what stands in the array
+kept : (c : tie.After-put-catalogue2) → Wrote maxExtension (extension (c .before .before .before .before .before .args .r) catalogueOrder) (replicate maxExtension 0) (c .put-catalogue2 .result) (c .put-catalogue2 .last .1 .1 .0)
+kept c = catalogue-wrote _ (c .before .before .before .before .before .pre) _ _ _ _ _ (omega arith) (c .put-catalogue2 .ensures)
+
 put-catalogue-requires : tie.Need-put-catalogue-requires
 put-catalogue-requires c κs = search needs
 
--- src/lib.rt:286:9
 same-length : tie.Need-same-length
 same-length c = search needs
 
--- src/lib.rt:286:9
 returns : tie.Need-returns
-returns c = ?
+returns c =
+    let s = c .before .before .before .before .before .before .before in
+    let w = catalogue-wrote (s .args .r) (s .pre) _ (s .args .out .now) _ _ _ (omega arith) (c .before .before .put-catalogue .ensures) in
+    stored-whole _ _ _ (s .args .out .now) _ (omega (arith, longest (s .args .r) _ (s .pre) in-catalogue)) w
 
--- src/lib.rt:289:43
 slice-aggregate-put-catalogue : tie.Need-slice-aggregate-put-catalogue
 slice-aggregate-put-catalogue c = search needs
 
--- src/lib.rt:289:9
 put-catalogue-requires-2 : tie.Need-put-catalogue-requires-2
 put-catalogue-requires-2 c κs = search needs
 
--- src/lib.rt:291:9
 returns-2 : tie.Need-returns-2
-returns-2 c = ?
+returns-2 c = stored-short _ (c .before .before .before .before .before .before .before .args .out .now) (omega (arith, kept (c .before .before) .count))
 
--- src/lib.rt:293:15
 array-share-prefix-parts : tie.Need-array-share-prefix-parts
-array-share-prefix-parts c = search needs
+array-share-prefix-parts c = omega (arith, kept (c .before .before) .few)
 
--- src/lib.rt:293:15
 slice-aggregate-put-bytes : tie.Need-slice-aggregate-put-bytes
-slice-aggregate-put-bytes c = ?
+slice-aggregate-put-bytes c = let w = kept (c .before .before .before) in w .count ∙ ap length (sym (whole-part _ _ _ _ _ w))
 
--- src/lib.rt:293:5
 put-bytes-requires : tie.Need-put-bytes-requires
 put-bytes-requires c κs = search needs
 
--- src/lib.rt:280:1
 same-length-2 : tie.Need-same-length-2
 same-length-2 c = search needs
 
--- src/lib.rt:280:1
 returns-3 : tie.Need-returns-3
-returns-3 c = ?
+returns-3 c =
+    let w = kept (c .before .before .before .before .before .before .before) in
+    let l = c .before .before .before .before .before .if2 .left in
+    let k : length (take (c .before .before .before .before .before .before .before .put-catalogue2 .result) (c .before .before .before .before .before .before .before .put-catalogue2 .last .1 .1 .0)) ≤ length (c .before .before .before .before .before .before .before .before .before .before .before .before .args .out .now) = rw (whole-part _ _ _ _ _ w) (omega (arith, w .count)) in
+    stored-copy _ _ _ _ _ (c .before .before .before .before .before .before .before .before .before .before .before .before .args .out .now) _ w l (stored _ _ _ _ k (c .before .before .put-bytes .ensures))
 
 pub write-unordered-spec : {M : Type 1} → statement M
 write-unordered-spec =
