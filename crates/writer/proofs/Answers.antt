@@ -1,48 +1,39 @@
 -- What the code answers at each `return`, as the definitions have it. Assumes nothing.
-use Prim.Native.Nat.{ℕ, _≤_, _<_}
+use Prim.Native.Nat.{ℕ, _≤_}
 use mathlib.Core.List.{List}
-use mathlib.Core.Path.{_≡_, ap, ap₂, sym, _∙_}
+use mathlib.Core.Path.{_≡_, ap, sym, _∙_}
 use mathlib.Core.Bool.{true, false}
-use native.Mathlib.Omega.{arith}
-use lib.ListN.{length, take, drop}
-use lib.Seq.{take-append-seam}
-use borrow.Author.Tests.{le-leb, lt-leb}
-use Rattle.refusal.specs.Outcome.{Outcome, accepted, refused, front, store}
+use lib.ListN.{length}
+use Rattle.refusal.specs.Outcome.{Outcome, refused, store}
 use Rattle.record.specs.declared.TransportParameters.{TransportParameters}
 use Rattle.record.specs.Record.{wellFormed}
-use Rattle.writer.specs.Writing.{parameterAt, extension, orderOf, write}
+use Rattle.catalogue.specs.Catalogue.{places}
 use Rattle.order.specs.Order.{permutation, catalogueOrder}
-use Rattle.writer.specs.Stored.{Wrote, Laid, each}
 use Rattle.order.proofs.Orders.{in-catalogue}
-use Rattle.writer.proofs.Extension.{length-extension}
-use Rattle.writer.proofs.Stored.{wrote-as}
-use Rattle.writer.proofs.Catalogue.{in-catalogue-order}
+use Rattle.wire.specs.Stored.{Wrote, each}
+use Rattle.wire.proofs.Stored.{wrote-as}
+use Rattle.writer.specs.Writing.{parameterAt, maxExtension, extension, orderOf, write}
+use Rattle.writer.specs.Laid.{laid}
+use Rattle.writer.proofs.Extension.{length-extension, longest}
+use Rattle.writer.proofs.Laid.{Whole, whole-laid}
+use Rattle.writer.proofs.Places.{in-catalogue-order}
 
--- storing
-pub stored-short : (bs out : List ℕ) → length out < length bs → _≡_ {A = Outcome ℕ × List ℕ} (refused 5, out) (store bs out)
-unfolding store
-stored-short bs out h = rw (lt-leb _ _ h)
+-- in catalogue order
+module _ (r : TransportParameters) (w : wellFormed r ≡ true) (n : ℕ) (out st m st₁ : List ℕ) (h : maxExtension ≤ length out)
+    (e : (n, m, st₁) ≡ laid (each (parameterAt r) places) 1 0 out st) where
+  pub catalogue-whole : Whole (each (parameterAt r) places) out st n m st₁
+  catalogue-whole = whole-laid (each (parameterAt r) places) n out st m st₁ (rw (in-catalogue-order r) (longest r catalogueOrder w in-catalogue)) h e
 
-pub stored-whole : (p n : ℕ) (bs out out′ : List ℕ) → length bs ≤ length out → Wrote p bs out n out′ → _≡_ {A = Outcome ℕ × List ℕ} (accepted n, out′) (store bs out)
-unfolding store
-stored-whole p n bs out out′ h w = rw (le-leb _ _ h) (ap₂ (λ (k : ℕ) (m : List ℕ). (accepted k, m)) (w .count) (w .bytes))
+  pub catalogue-wrote : Wrote maxExtension (extension r catalogueOrder) out n m
+  catalogue-wrote = wrote-as _ _ _ _ _ _ (in-catalogue-order r) (catalogue-whole .wrote)
 
--- in catalogue order, and in any other
-pub catalogue-wrote : (r : TransportParameters) (n : ℕ) (out st m st₁ : List ℕ) → Laid 314 1 0 (each (parameterAt r) 21) out st n m st₁ → Wrote 314 (extension r catalogueOrder) out n m
-catalogue-wrote r n out st m st₁ x = wrote-as _ _ _ _ _ _ (in-catalogue-order r) (x .wrote)
-
-pub whole-part : (p n : ℕ) (bs out m : List ℕ) → Wrote p bs out n m → take n m ≡ bs
-unfolding front
-whole-part p n bs out m w = rw (w .count, w .bytes) (take-append-seam bs (drop (length bs) out))
-
-pub stored-copy : (p n : ℕ) (bs scratch m out ys : List ℕ) → Wrote p bs scratch n m → n ≤ length out → ys ≡ front (take n m) out
-    → _≡_ {A = Outcome ℕ × List ℕ} (accepted n, ys) (store bs out)
-stored-copy p n bs scratch m out ys w h e =
-    let c = w .count in
-    stored-whole p n bs out ys (omega arith) (record { count = c; few = w .few; bytes = e ∙ ap (λ (s : List ℕ). front s out) (whole-part p n bs scratch m w) })
-
-pub any-order : (r : TransportParameters) (os : List ℕ) → permutation os ≡ true → length (extension r catalogueOrder) ≡ length (extension r os)
+-- and in any other: as many bytes
+any-order : (r : TransportParameters) (os : List ℕ) → permutation os ≡ true → length (extension r catalogueOrder) ≡ length (extension r os)
 any-order r os h = length-extension r catalogueOrder in-catalogue ∙ sym (length-extension r os h)
+
+pub in-any-order : (r : TransportParameters) (os : List ℕ) {n : ℕ} {out st m st₁ : List ℕ} → permutation os ≡ true → Whole (each (parameterAt r) places) out st n m st₁
+    → n ≡ length (extension r os)
+in-any-order r os h x = x .wrote .count ∙ ap length (in-catalogue-order r) ∙ any-order r os h
 
 -- writing
 module _ (r : TransportParameters) (out : List ℕ) where

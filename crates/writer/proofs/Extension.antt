@@ -1,6 +1,6 @@
 -- How long an extension is. Assumes nothing.
 --     length-extension    the same in every order: the sum over all places
---     longest             at most 314 bytes
+--     longest             at most `maxExtension` bytes
 --     reached             by a record whose parameters are all as long as they can be
 use Prim.Native.Nat.{ℕ, _-_, _^_, _≤_, _<_}
 use mathlib.Core.Path.{_≡_, refl, _∙_}
@@ -25,7 +25,7 @@ use Rattle.record.specs.Record.{formedOptional, formedOptionalCid, formedToken,
 use Rattle.catalogue.proofs.Sums.{sum, sum-le}
 use Rattle.record.proofs.KindLaws.{IfSome, Sound, number-mono, parameter-mono}
 use Rattle.record.proofs.Records.{Families, sound}
-use Rattle.writer.specs.Writing.{reservedBytes, parameterAt, concatOf, extension}
+use Rattle.writer.specs.Writing.{reservedBytes, parameterAt, concatOf, extension, maxExtension}
 use Rattle.order.specs.Order.{permutation, catalogueOrder}
 use Rattle.order.proofs.Orders.{weigh, weigh-all}
 
@@ -75,11 +75,11 @@ parameter-width r w p h = go (eqb p 11) refl
     go true k = rw (eqb-true p 11 k) (reserved-width (r .«grease_transport_parameter») (unfold wellFormed in all-at _ w 2))
     go false k = at (valuesOf r p) (sound r w p)
 
-all-widths : sum places widthAt ≡ 314
+all-widths : sum places widthAt ≡ maxExtension
 unfolding sum widthAt idAt ids kindAt kinds widest parameter form tagOf
 all-widths = refl
 
-pub longest : (r : TransportParameters) (os : List ℕ) → wellFormed r ≡ true → permutation os ≡ true → length (extension r os) ≤ 314
+pub longest : (r : TransportParameters) (os : List ℕ) → wellFormed r ≡ true → permutation os ≡ true → length (extension r os) ≤ maxExtension
 longest r os w h =
     rw (length-extension r os h) (omega (arith, all-widths, sum-le places (λ p. length (parameterAt r p)) widthAt (parameter-width r w)))
 
@@ -111,6 +111,6 @@ longestRecord =
     longestCid : OptionalConnectionId
     longestCid = record { present = true; cid = cidOf (replicate 20 255) }
 
-pub reached : (wellFormed longestRecord ≡ true) × (length (extension longestRecord catalogueOrder) ≡ 314)
+pub reached : (wellFormed longestRecord ≡ true) × (length (extension longestRecord catalogueOrder) ≡ maxExtension)
 unfolding longestRecord wellFormed all formedReserved formedOptionalToken formedToken formedOptional formedAddress formedFamily formedOptionalCid formedCid formedOrder noOrder cidOf extension catalogueOrder parameterAt reservedBytes valuesOf otherValues numberOut optionalOut flagOut cidOut tokenOut addressOut familyOut defaults idAt ids parameter form tagOf
 reached = (refl, refl)

@@ -1,96 +1,133 @@
--- Parameters one after another, and where each starts. Assumes nothing.
---     laid-one      the first
---     laid-more     one more
---     laid-then     some, then others
---     number-more   one more of places 0 to 10
-use Prim.Native.Nat.{ℕ, zero, suc, _+_, _*_, _≤_, _<_}
-use mathlib.Core.List.{List, [], _∷_, _++_, append-assoc, append-nil}
-use mathlib.Core.Path.{_≡_, refl, ap, sym, _∙_}
+-- Laws of parameters laid one after another. Assumes nothing.
+--     laid-next      one more, by the writer that was lent the rest
+--     laid-then      some, then others
+--     laid-within    never beyond the buffer
+--     laid-room      with room for all: where they stand, and where each ends
+use Prim.Native.Nat.{ℕ, zero, suc, _+_, _-_, _^_, _≤_, _<_}
+use mir.Val.{Fits}
+use mir.Syntax.{w64}
+use mathlib.Core.List.{List, [], _∷_, _++_, append-assoc}
+use mathlib.Core.Path.{_≡_, refl, ap, ap₂, sym, _∙_, subst}
 use native.Mathlib.Omega.{arith}
 use native.Mathlib.Nat.{add-zero}
 use native.Mathlib.Numerals.{add-one}
-use lib.ListN.{length, getD, drop, set, length-append, List·getD-append}
-use lib.Seq.{sets}
-use lib.Dec.{ltb}
-use borrow.Author.Tests.{ltb-true}
-use Rattle.catalogue.specs.Catalogue.{ids, idAt, defaults, parameterIf}
-use Rattle.record.specs.Values.{numberOut}
-use Rattle.catalogue.proofs.Places.{below-at}
-use Rattle.writer.specs.Stored.{Wrote, Laid, joined, endsFrom, each, numberAt}
-use Rattle.writer.proofs.Stored.{lent, back, wrote-none, wrote-as, wrote-then}
+use lib.ListN.{length, take, drop, set, length-append, length-take, length-drop, length-set, take-append-drop}
+use lib.Seq.{sets, take-at, drop-at, drop-drop, length-take-le}
+use Rattle.refusal.specs.Outcome.{front}
+use Rattle.wire.specs.Wire.{put}
+use Rattle.wire.specs.Stored.{Wrote, joined, each}
+use Rattle.wire.proofs.Stored.{lent, back, rest, whole, length-front, length-each}
+use Rattle.wire.proofs.Put.{Behind, put-whole, put-within}
+use Rattle.writer.specs.Writing.{maxExtension}
+use Rattle.writer.specs.Laid.{laid, endsFrom}
 
-pub joined-append : (ss ts : List (List ℕ)) → joined (ss ++ ts) ≡ joined ss ++ joined ts
-unfolding joined
-joined-append [] ts = refl
-joined-append (s ∷ ss) ts = ap (λ (l : List ℕ). s ++ l) (joined-append ss ts) ∙ sym (append-assoc s (joined ss) (joined ts))
+pub laid-next : (s : List ℕ) (ss : List (List ℕ)) (k at n : ℕ) (out ys st : List ℕ) → (n, ys) ≡ put s (lent at out)
+    → laid (s ∷ ss) k at out st ≡ laid ss (suc k) (at + n) (back at out ys) (set st k (at + n))
+unfolding laid
+laid-next s ss k at n out ys st e =
+    let p : put s (drop at out) ≡ (n, ys) = sym (e ∙ ap (put s) (rest at out)) in
+    rw (p, whole at out ys)
 
-ends-append : (b : ℕ) (ss ts : List (List ℕ)) → endsFrom b (ss ++ ts) ≡ endsFrom b ss ++ endsFrom (b + length (joined ss)) ts
-unfolding joined endsFrom
-ends-append b [] ts = rw (add-zero b)
-ends-append b (s ∷ ss) ts =
-    let e : b + length s + length (joined ss) ≡ b + length (s ++ joined ss) = rw (length-append s (joined ss)) (omega arith) in
-    ap (λ (l : List ℕ). (b + length s) ∷ l) (ends-append (b + length s) ss ts ∙ ap (λ (n : ℕ). endsFrom (b + length s) ss ++ endsFrom n ts) e)
+-- how far a writer goes is a number of the machine
+pub fits-behind : {at n : ℕ} {o m : List ℕ} {l : ℕ} → Behind at n o m → length o ≡ l → l < 2 ^ 64 → Fits w64 (at + n)
+fits-behind {at} {n} {o} {m} h e k = record { fits = omega (arith, h .within, h .same) }
+
+-- three writers one after another, and a fourth
+module _ (s₁ s₂ s₃ : List ℕ) (k at n₁ n₂ n₃ : ℕ) (out y₁ y₂ y₃ st : List ℕ) (e₁ : (n₁, y₁) ≡ put s₁ (lent at out)) (e₂ : (n₂, y₂) ≡ put s₂ (lent (at + n₁) (back at out y₁)))
+    (e₃ : (n₃, y₃) ≡ put s₃ (lent (at + n₁ + n₂) (back (at + n₁) (back at out y₁) y₂))) where
+  three : (ss : List (List ℕ)) → laid (s₁ ∷ s₂ ∷ s₃ ∷ ss) k at out st
+      ≡ laid ss (suc (suc (suc k))) (at + n₁ + n₂ + n₃) (back (at + n₁ + n₂) (back (at + n₁) (back at out y₁) y₂) y₃)
+      (set (set (set st k (at + n₁)) (suc k) (at + n₁ + n₂)) (suc (suc k)) (at + n₁ + n₂ + n₃))
+  three ss = laid-next s₁ _ k at n₁ out y₁ st e₁ ∙ laid-next s₂ _ _ _ n₂ _ y₂ _ e₂ ∙ laid-next s₃ ss _ _ n₃ _ y₃ _ e₃
+
+  pub laid-three : laid [] (suc (suc (suc k))) (at + n₁ + n₂ + n₃) (back (at + n₁ + n₂) (back (at + n₁) (back at out y₁) y₂) y₃)
+      (set (set (set st k (at + n₁)) (suc k) (at + n₁ + n₂)) (suc (suc k)) (at + n₁ + n₂ + n₃))
+      ≡ laid (s₁ ∷ s₂ ∷ s₃ ∷ []) k at out st
+  laid-three = sym (three [])
+
+  pub laid-four : (s₄ : List ℕ) (n₄ : ℕ) (y₄ : List ℕ) → (n₄, y₄) ≡ put s₄ (lent (at + n₁ + n₂ + n₃) (back (at + n₁ + n₂) (back (at + n₁) (back at out y₁) y₂) y₃))
+      → laid [] (suc (suc (suc (suc k)))) (at + n₁ + n₂ + n₃ + n₄) (back (at + n₁ + n₂ + n₃) (back (at + n₁ + n₂) (back (at + n₁) (back at out y₁) y₂) y₃) y₄)
+      (set (set (set (set st k (at + n₁)) (suc k) (at + n₁ + n₂)) (suc (suc k)) (at + n₁ + n₂ + n₃)) (suc (suc (suc k))) (at + n₁ + n₂ + n₃ + n₄))
+      ≡ laid (s₁ ∷ s₂ ∷ s₃ ∷ s₄ ∷ []) k at out st
+  laid-four s₄ n₄ y₄ e₄ = sym (three (s₄ ∷ []) ∙ laid-next s₄ [] _ _ n₄ _ y₄ _ e₄)
+
+abbrev Laid : Type 0
+Laid = ℕ × List ℕ × List ℕ
+
+abbrev on : List (List ℕ) → ℕ → Laid → Laid
+on ss k t = laid ss k (t .0) (t .1) (t .2)
+
+laid-append : (ss ts : List (List ℕ)) (k at : ℕ) (out st : List ℕ) → laid (ss ++ ts) k at out st ≡ on ts (k + length ss) (laid ss k at out st)
+unfolding laid
+laid-append [] ts k at out st = rw (add-zero k)
+laid-append (s ∷ ss) ts k at out st =
+    let e : suc k + length ss ≡ k + suc (length ss) = omega arith in
+    laid-append ss ts (suc k) _ _ _ ∙ rw e
+
+pub laid-then : (ss ts : List (List ℕ)) (k i at a : ℕ) (out st o s : List ℕ) → i ≡ k + length ss → (a, o, s) ≡ laid ss k at out st
+    → laid ts i a o s ≡ laid (ss ++ ts) k at out st
+laid-then ss ts k i at a out st o s h e = rw h (ap (on ts (k + length ss)) e) ∙ sym (laid-append ss ts k at out st)
+
+-- one more of the first places
+pub number-more : (f : ℕ → List ℕ) (i at n : ℕ) (out st o s ys : List ℕ) → (at, o, s) ≡ laid (each f i) 1 0 out st → (n, ys) ≡ put (f i) (lent at o)
+    → (at + n, back at o ys, set s (i + 1) (at + n)) ≡ laid (each f (i + 1)) 1 0 out st
+unfolding each laid
+number-more f i at n out st o s ys e w =
+    let k : i + 1 ≡ 1 + length (each f i) = omega (arith, length-each f i) in
+    rw k (sym (laid-next (f i) [] (1 + length (each f i)) at n o ys s w)) ∙ laid-then (each f i) (f i ∷ []) 1 (1 + length (each f i)) 0 at out st o s refl e ∙ rw (add-one i)
+
+-- never beyond the buffer
+abbrev pub Within : ℕ → List ℕ → List ℕ → Laid → Type 0
+Within at out st t = (t .0 ≤ length (t .1)) × (length (t .1) ≡ length out) × (length (t .2) ≡ length st)
+
+within : (ss : List (List ℕ)) (k at : ℕ) (out st : List ℕ) → at ≤ length out → Within at out st (laid ss k at out st)
+unfolding laid
+within [] k at out st h = (h, refl, refl)
+within (s ∷ ss) k at out st h =
+    let w = put-within s (drop at out) in
+    let d = length-drop at out in
+    let p = put s (drop at out) in
+    let l : length (take at out ++ p .1) ≡ length out = rw (length-append, length-take) (omega arith) in
+    let r = within ss (suc k) (at + p .0) (take at out ++ p .1) (set st k (at + p .0)) (omega arith) in
+    (r .0, r .1 ∙ l, r .2 ∙ length-set st k (at + p .0))
+
+pub laid-within : (ss : List (List ℕ)) (k at a : ℕ) (out st o s : List ℕ) → at ≤ length out → (a, o, s) ≡ laid ss k at out st → Within at out st (a, o, s)
+laid-within ss k at a out st o s h e = subst (λ (t : Laid). Within at out st t) (sym e) (within ss k at out st h)
+
+-- with room for all
+pub laid-room : (ss : List (List ℕ)) (k at : ℕ) (out st : List ℕ) → at + length (joined ss) ≤ length out
+    → laid ss k at out st ≡ (at + length (joined ss), take at out ++ front (joined ss) (drop at out), sets st k (endsFrom at ss))
+unfolding laid joined endsFrom front
+laid-room [] k at out st h = rw (add-zero at, take-append-drop at out)
+laid-room (s ∷ ss) k at out st h =
+    let l = length-append s (joined ss) in
+    let d = length-drop at out in
+    let f = front s (drop at out) in
+    let p : put s (drop at out) ≡ (length s, f) = sym (put-whole (length s) s (drop at out) f (omega arith) refl refl) in
+    let n : length (take at out) ≡ at = length-take-le at out (omega arith) in
+    let m : take at out ++ f ≡ take at out ++ s ++ drop (length s) (drop at out) = sym (append-assoc (take at out) s (drop (length s) (drop at out))) in
+    let i : length (take at out ++ s) ≡ at + length s = rw (length-append (take at out) s) (omega arith) in
+    let t : take (at + length s) (take at out ++ f) ≡ take at out ++ s = ap (take (at + length s)) m ∙ take-at (take at out ++ s) (drop (length s) (drop at out)) (at + length s) i in
+    let u : drop (at + length s) (take at out ++ f) ≡ drop (length s) (drop at out) = ap (drop (at + length s)) m ∙ drop-at (take at out ++ s) (drop (length s) (drop at out)) (at + length s) i in
+    let z : length (take at out ++ f) ≡ length out = rw (length-append (take at out) f, length-front s (drop at out) (omega arith)) (omega arith) in
+    rw p
+    (laid-room ss (suc k) (at + length s) (take at out ++ f) (set st k (at + length s)) (omega arith)
+    ∙ ap₂ (λ (j : ℕ) (o : List ℕ). (j, o, sets st k (endsFrom at (s ∷ ss)))) (omega arith)
+    (rw (t, u, append-assoc, append-assoc, length-append s (joined ss), drop-drop)))
+
+-- all of them, in a buffer that has room for any extension
+pub record Whole (ss : List (List ℕ)) (out st : List ℕ) (n : ℕ) (m st₁ : List ℕ) : Type 0 where
+  pub wrote : Wrote maxExtension (joined ss) out n m
+  pub noted : st₁ ≡ sets st 1 (endsFrom 0 ss)
+
+pub whole-laid : (ss : List (List ℕ)) (n : ℕ) (out st m st₁ : List ℕ) → length (joined ss) ≤ maxExtension → maxExtension ≤ length out
+    → (n, m, st₁) ≡ laid ss 1 0 out st → Whole ss out st n m st₁
+whole-laid ss n out st m st₁ h k e =
+    let q : _≡_ {A = Laid} (n, m, st₁) (0 + length (joined ss), front (joined ss) out, sets st 1 (endsFrom 0 ss)) = e ∙ laid-room ss 1 0 out st (omega arith) in
+    let c : n ≡ 0 + length (joined ss) = ap (λ (t : Laid). t .0) q in
+    record { wrote = record { count = omega arith; few = omega arith; bytes = ap (λ (t : Laid). t .1) q }; noted = ap (λ (t : Laid). t .2) q }
 
 pub length-ends : (b : ℕ) (ss : List (List ℕ)) → length (endsFrom b ss) ≡ length ss
 unfolding endsFrom
 length-ends b [] = refl
 length-ends b (s ∷ ss) = ap suc (length-ends (b + length s) ss)
-
-sets-append : (l : List ℕ) (k : ℕ) (xs ys : List ℕ) → sets l k (xs ++ ys) ≡ sets (sets l k xs) (k + length xs) ys
-sets-append l k [] ys = rw (add-zero k)
-sets-append l k (x ∷ xs) ys = let e : suc k + length xs ≡ k + suc (length xs) = omega arith in sets-append (set l k x) (suc k) xs ys ∙ rw e
-
-pub laid-then : (p q k i b d n j : ℕ) (ss ts : List (List ℕ)) (out st m st₁ ys st₂ : List ℕ) → p + q ≤ length out → i ≡ k + length ss → d ≡ b + n
-    → Laid p k b ss out st n m st₁ → Laid q i d ts (lent n m) st₁ j ys st₂ → Laid (p + q) k b (ss ++ ts) out st (n + j) (back n m ys) st₂
-laid-then p q k i b d n j ss ts out st m st₁ ys st₂ h e f x y =
-    let c = x .wrote .count in
-    record {
-      wrote = wrote-as _ _ _ _ _ _ (sym (joined-append ss ts)) (wrote-then p q n j (joined ss) (joined ts) out m ys h (x .wrote) (y .wrote));
-      noted =
-          y .noted
-          ∙ rw (x .noted, e, f, c, ends-append, sets-append, length-ends);
-    }
-
-pub laid-one : (p k b n v : ℕ) (s out st m : List ℕ) → v ≡ b + n → Wrote p s out n m → Laid p k b (s ∷ []) out st n m (set st k v)
-unfolding joined endsFrom
-laid-one p k b n v s out st m e w =
-    record {
-      wrote = wrote-as _ _ _ _ _ _ (sym (append-nil s)) w;
-      noted = rw (e, w .count);
-    }
-
-pub laid-more : (p q k i b n j v : ℕ) (ss : List (List ℕ)) (s out st m st₁ ys : List ℕ) → p + q ≤ length out → i ≡ k + length ss → v ≡ b + (n + j)
-    → Laid p k b ss out st n m st₁ → Wrote q s (lent n m) j ys → Laid (p + q) k b (ss ++ (s ∷ [])) out st (n + j) (back n m ys) (set st₁ i v)
-laid-more p q k i b n j v ss s out st m st₁ ys h e f x y =
-    laid-then p q k i b (b + n) n j ss (s ∷ []) out st m st₁ ys (set st₁ i v) h e refl x (laid-one q i (b + n) j v s (lent n m) st₁ ys (omega arith) y)
-
-pub laid-none : (k b : ℕ) (out st : List ℕ) → Laid 0 k b [] out st 0 out st
-unfolding joined endsFrom
-laid-none k b out st = record { wrote = wrote-none 0 out; noted = refl }
-
--- PLACES 0 TO 10
-abbrev numberIds : List ℕ
-numberIds = 0x01 ∷ 0x03 ∷ 0x04 ∷ 0x05 ∷ 0x06 ∷ 0x07 ∷ 0x08 ∷ 0x09 ∷ 0x0a ∷ 0x0b ∷ 0x0e ∷ []
-
-number-id : (i : ℕ) → i < 11 → getD numberIds i 0 ≡ idAt i
-unfolding idAt ids
-number-id i h = sym (List·getD-append numberIds (drop 11 ids) 0 i h)
-
-pub id-short : (i : ℕ) → i < 11 → getD numberIds i 0 < 64
-id-short i h = ltb-true _ _ (below-at 11 (λ p. ltb (getD numberIds p 0) 64) refl i h)
-
-pub length-each : (f : ℕ → List ℕ) (n : ℕ) → length (each f n) ≡ n
-unfolding each
-length-each f zero = refl
-length-each f (suc n) = rw (length-append (each f n) (f n ∷ []), length-each f n) (add-one n)
-
-pub number-more : (ns : List ℕ) (i at j : ℕ) (out st m st₁ ys : List ℕ) → i < 11 → 110 ≤ length out
-    → Laid (10 * i) 1 0 (each (numberAt ns) i) out st at m st₁
-    → Wrote 10 (parameterIf (getD numberIds i 0) (numberOut (getD defaults i 0) (getD ns i 0))) (lent at m) j ys
-    → Laid (10 * (i + 1)) 1 0 (each (numberAt ns) (i + 1)) out st (at + j) (back at m ys) (set st₁ (i + 1) (at + j))
-unfolding each numberAt
-number-more ns i at j out st m st₁ ys h k x y =
-    let e : 10 * (i + 1) ≡ 10 * i + 10 = omega arith in
-    rw (e, add-one)
-    (laid-more (10 * i) 10 1 (suc i) 0 at j (at + j) (each (numberAt ns) i) (numberAt ns i) out st m st₁ ys (omega arith)
-    (omega (arith, length-each (numberAt ns) i)) (omega arith) x (rw (number-id i h) at y))

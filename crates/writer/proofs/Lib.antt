@@ -1,7 +1,6 @@
 pub mod Extension
-pub mod Stored
-pub mod Due
 pub mod Laid
-pub mod Catalogue
+pub mod Parts
+pub mod Places
 pub mod Ordered
 pub mod Answers

@@ -19,12 +19,15 @@ use Rattle.refusal.specs.Outcome.{front}
 use Rattle.refusal.proofs.Laws.{all-at}
 use Rattle.record.specs.declared.TransportParameters.{TransportParameters}
 use Rattle.catalogue.specs.Catalogue.{places}
-use Rattle.writer.specs.Writing.{concatOf, parameterAt, extension}
+use Rattle.writer.specs.Writing.{concatOf, parameterAt, extension, maxExtension}
 use Rattle.order.specs.Order.{distinct, permutation}
-use Rattle.writer.specs.Stored.{Wrote, Laid, joined, endsFrom, each, partAt, InOrder}
+use Rattle.wire.specs.Stored.{Wrote, joined, each}
+use Rattle.writer.specs.Laid.{endsFrom, partAt, InOrder}
 use Rattle.order.proofs.Orders.{first}
-use Rattle.writer.proofs.Stored.{lent, back, front-then, wrote-as, wrote-length}
-use Rattle.writer.proofs.Laid.{joined-append, length-ends, length-each}
+use Rattle.wire.specs.Wire.{put}
+use Rattle.wire.proofs.Stored.{lent, back, behind, front-then, wrote-as, wrote-length, joined-append, length-each}
+use Rattle.wire.proofs.Put.{put-wrote}
+use Rattle.writer.proofs.Laid.{Whole, length-ends}
 
 -- AN ORDER, PLACE BY PLACE
 concat-append : (f : ℕ → List ℕ) (xs ys : List ℕ) → concatOf f (xs ++ ys) ≡ concatOf f xs ++ concatOf f ys
@@ -46,30 +49,33 @@ module _ (f : ℕ → List ℕ) (os : List ℕ) (k : ℕ) (h : k < length os) wh
       omega arith
 
   pub ordered-more : (p at n : ℕ) (out m ys : List ℕ) → length (concatOf f os) ≤ length out → Wrote (length out) (concatOf f (take k os)) out at m
-      → p ≡ getD os k 0 → n ≡ length (f p) → ys ≡ front (f p) (lent at m) → Wrote (length out) (concatOf f (take (k + 1) os)) out (at + n) (back at m ys)
-  ordered-more p at n out m ys l w i e q =
+      → p ≡ getD os k 0 → (n, ys) ≡ put (f p) (lent at m) → Wrote (length out) (concatOf f (take (k + 1) os)) out (at + n) (back at m ys)
+  ordered-more p at n out m ys l w i v =
       let c = w .count in
       let s : length (concatOf f (take k os)) + length (f p) ≤ length (concatOf f os) = rw i concat-le in
+      let b : length m ≡ length out = wrote-length (length out) at (concatOf f (take k os)) out m (omega arith) w in
+      let g = put-wrote (length (f p)) n (f p) (lent at m) ys (omega arith) (behind (length (f p)) at m (omega arith)) v in
+      let e = g .count in
       wrote-as _ _ (concatOf f (take k os) ++ f p) _ _ _ (rw i (sym concat-more))
       (record {
         count = rw (length-append (concatOf f (take k os)) (f p)) (omega arith);
         few = omega arith;
-        bytes = front-then (concatOf f (take k os)) (f p) out m ys at c (omega arith) (w .bytes) q;
+        bytes = front-then (concatOf f (take k os)) (f p) out m ys at c (omega arith) (w .bytes) (g .bytes);
       })
 
 -- the part of a place
 pub record Part (starts parts out : List ℕ) (p at : ℕ) : Type 0 where
-  pub place : p < 21
+  pub place : p < places
   pub forward : getD starts p 0 ≤ getD starts (p + 1) 0
   pub within : getD starts (p + 1) 0 ≤ length parts
   pub long : getD starts (p + 1) 0 - getD starts p 0 ≡ length (partAt starts parts p)
   pub room : at + length (partAt starts parts p) ≤ length out
 
-pub part-room : (starts parts os out : List ℕ) (k p at : ℕ) → InOrder os starts parts out → k < 21 → at ≡ length (concatOf (partAt starts parts) (take k os))
+pub part-room : (starts parts os out : List ℕ) (k p at : ℕ) → InOrder os starts parts out → k < places → at ≡ length (concatOf (partAt starts parts) (take k os))
     → p ≡ getD os k 0 → Part starts parts out p at
 unfolding partAt
 part-room starts parts os out k p at o h c e =
-    let i : p < 21 = rw e (o .each-place k h) in
+    let i : p < places = rw e (o .each-place k h) in
     let t = o .each-part p i in
     record {
       place = i;
@@ -118,10 +124,10 @@ each-at f (suc n) p h = go (eqb p n) refl (each-at f n p)
         List·getD-append (each f n) (f n ∷ []) [] p (omega (arith, length-each f n)) ∙ ih i
 
 -- the places noted, from none
-noted-from : (ss : List (List ℕ)) → length ss ≡ 21 → sets (replicate 22 0) 1 (endsFrom 0 ss) ≡ 0 ∷ endsFrom 0 ss
+noted-from : (ss : List (List ℕ)) → length ss ≡ places → sets (replicate (places + 1) 0) 1 (endsFrom 0 ss) ≡ 0 ∷ endsFrom 0 ss
 noted-from ss h =
-    let e : length (endsFrom 0 ss) ≡ 21 = length-ends 0 ss ∙ h in
-    sets-eq (endsFrom 0 ss) (replicate 22 0) 1 (omega arith) ∙ rw (e, append-nil (0 ∷ endsFrom 0 ss))
+    let e : length (endsFrom 0 ss) ≡ places = length-ends 0 ss ∙ h in
+    sets-eq (endsFrom 0 ss) (replicate (places + 1) 0) 1 (omega arith) ∙ rw (e, append-nil (0 ∷ endsFrom 0 ss))
 
 -- a part is what is due at its place
 record Due (f : ℕ → List ℕ) (starts parts : List ℕ) (p : ℕ) : Type 0 where
@@ -129,24 +135,24 @@ record Due (f : ℕ → List ℕ) (starts parts : List ℕ) (p : ℕ) : Type 0 w
   pub within : getD starts (p + 1) 0 ≤ length parts
   pub same : partAt starts parts p ≡ f p
 
-part-is : (f : ℕ → List ℕ) (n : ℕ) (out m st : List ℕ) → 314 ≤ length out → Laid 314 1 0 (each f 21) out (replicate 22 0) n m st → (p : ℕ) → p < 21
+part-is : (f : ℕ → List ℕ) (n : ℕ) (out m st : List ℕ) → maxExtension ≤ length out → Whole (each f places) out (replicate (places + 1) 0) n m st → (p : ℕ) → p < places
     → Due f st m p
 unfolding partAt front
 part-is f n out m st h x p k =
-    let ss = each f 21 in
-    let l : length ss ≡ 21 = length-each f 21 in
+    let ss = each f places in
+    let l : length ss ≡ places = length-each f places in
     let e : st ≡ 0 ∷ endsFrom 0 ss = x .noted ∙ noted-from ss l in
     let a : getD st p 0 ≡ length (joined (take p ss)) = rw e (starts-at 0 ss p (omega arith) ∙ zero-add _) in
     let b : getD st (p + 1) 0 ≡ length (joined (take (p + 1) ss)) = rw e (starts-at 0 ss (p + 1) (omega arith) ∙ zero-add _) in
     let d = ends-more ss p (omega arith) in
     let g = prefix-le ss (p + 1) in
     let c = x .wrote .count in
-    let w = wrote-length 314 n (joined ss) out m h (x .wrote) in
+    let w = wrote-length maxExtension n (joined ss) out m h (x .wrote) in
     let i : getD st (p + 1) 0 - getD st p 0 ≡ length (getD ss p []) = omega arith in
     record {
       forward = omega arith;
       within = omega (arith, x .wrote .few);
-      same = rw (i, a, x .wrote .bytes) (part-in ss (drop (length (joined ss)) out) p (omega arith)) ∙ each-at f 21 p k;
+      same = rw (i, a, x .wrote .bytes) (part-in ss (drop (length (joined ss)) out) p (omega arith)) ∙ each-at f places p k;
     }
 
 concat-same : (f g : ℕ → List ℕ) (os : List ℕ) → ((k : ℕ) → k < length os → f (getD os k 0) ≡ g (getD os k 0)) → concatOf f os ≡ concatOf g os
@@ -158,23 +164,23 @@ distinct-places [] d k h = absurd (omega arith)
 distinct-places (p ∷ os) d zero h = first p os d .below
 distinct-places (p ∷ os) d (suc k) h = distinct-places os (first p os d .more) k (omega arith)
 
-ordered-length : (os : List ℕ) → permutation os ≡ true → length os ≡ 21
+ordered-length : (os : List ℕ) → permutation os ≡ true → length os ≡ places
 unfolding permutation
 ordered-length os h = eqb-true _ _ (all-at _ h 0)
 
-ordered-place : (os : List ℕ) → permutation os ≡ true → (k : ℕ) → k < 21 → getD os k 0 < 21
+ordered-place : (os : List ℕ) → permutation os ≡ true → (k : ℕ) → k < places → getD os k 0 < places
 unfolding permutation
 ordered-place os h k i = distinct-places os (all-at _ h 1) k (rw (ordered-length os h) i)
 
-pub ordered : (r : TransportParameters) (os : List ℕ) (n : ℕ) (out m st : List ℕ) → permutation os ≡ true → 314 ≤ length out
-    → Laid 314 1 0 (each (parameterAt r) 21) out (replicate 22 0) n m st → concatOf (partAt st m) os ≡ extension r os
+pub ordered : (r : TransportParameters) (os : List ℕ) (n : ℕ) (out m st : List ℕ) → permutation os ≡ true → maxExtension ≤ length out
+    → Whole (each (parameterAt r) places) out (replicate (places + 1) 0) n m st → concatOf (partAt st m) os ≡ extension r os
 unfolding extension
 ordered r os n out m st h l x =
     concat-same (partAt st m) (parameterAt r) os (λ k i. part-is (parameterAt r) n out m st l x (getD os k 0) (ordered-place os h k (rw (ordered-length os h) at i)) .same)
 
 -- with room for the extension
-pub in-order : (r : TransportParameters) (os : List ℕ) (n : ℕ) (scratch m st out : List ℕ) → permutation os ≡ true → 314 ≤ length scratch
-    → Laid 314 1 0 (each (parameterAt r) 21) scratch (replicate 22 0) n m st → length (extension r os) ≤ length out → InOrder os st m out
+pub in-order : (r : TransportParameters) (os : List ℕ) (n : ℕ) (scratch m st out : List ℕ) → permutation os ≡ true → maxExtension ≤ length scratch
+    → Whole (each (parameterAt r) places) scratch (replicate (places + 1) 0) n m st → length (extension r os) ≤ length out → InOrder os st m out
 in-order r os n scratch m st out h l x k =
     record {
       long = ordered-length os h;

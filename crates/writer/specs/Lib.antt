@@ -1,3 +1,2 @@
 pub mod Writing
-pub mod Stored
-pub mod Answer
+pub mod Laid

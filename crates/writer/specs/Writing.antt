@@ -1,16 +1,16 @@
 -- Writing an extension (RFC 9000 section 18), as a definition: the parameters due, in the order given.
 use Prim.Native.Nat.{ℕ}
 use mathlib.Core.List.{List, [], _∷_, _++_}
-use mathlib.Core.Bool.{Bool, true, false, _&&_, _||_, not}
-use lib.ListN.{length, take}
-use lib.Dec.{ltb, eqb}
-use Rattle.refusal.specs.Outcome.{Outcome, refused, pick, all, store}
+use lib.ListN.{take}
+use lib.Dec.{eqb}
+use Rattle.refusal.specs.Outcome.{Outcome, refused, pick, store}
 use Rattle.record.specs.declared.TransportParameters.{TransportParameters}
 use Rattle.record.specs.declared.ReservedTransportParameter.{ReservedTransportParameter}
 use Rattle.record.specs.declared.WriteOrder.{WriteOrder}
-use Rattle.catalogue.specs.Catalogue.{places, idAt, parameter, parameterIf}
+use Rattle.catalogue.specs.Catalogue.{idAt, parameter, parameterIf}
 use Rattle.record.specs.Values.{valuesOf}
 use Rattle.record.specs.Record.{wellFormed}
+use Rattle.order.specs.Order.{permutation, catalogueOrder}
 
 -- the reserved parameter, if present
 unfoldable pub reservedBytes : ReservedTransportParameter → List ℕ
@@ -27,6 +27,10 @@ concatOf f (p ∷ os) = f p ++ concatOf f os
 -- the bytes due, in an order
 unfoldable pub extension : TransportParameters → List ℕ → List ℕ
 extension r os = concatOf (parameterAt r) os
+
+-- no extension of a well-formed record is longer, in bytes (proofs/Extension.antt)
+abbrev pub maxExtension : ℕ
+maxExtension = 314
 
 -- no order given means catalogue order
 unfoldable pub orderOf : WriteOrder → List ℕ

@@ -1,92 +1,125 @@
 -- `writer::put_11_to_13` meets its contract. Assumes nothing.
+use Prim.Native.Nat.{_+_, _^_, _<_}
+use mathlib.Core.Path.{refl, _∙_}
+use lib.ListN.{length}
 use native.Mathlib.Omega.{arith}
-use mathlib.Core.Path.{refl}
-use Rattle.writer.proofs.Laid.{laid-one, laid-more}
+use Rattle.catalogue.specs.Catalogue.{ids, idAt}
+use Rattle.wire.proofs.Stored.{back}
+use Rattle.wire.proofs.Put.{Behind, put-behind}
+use Rattle.writer.specs.Laid.{laid}
+use Rattle.writer.proofs.Laid.{fits-behind, laid-three}
 use borrow.Author.Needs.{needs}
 use Rattle.writer.proofs.put_11_to_13.Statement.{statement}
 use Rattle.writer.proofs.put_11_to_13.Tie as tie
 
+room : (c : tie.After-slice-known2) → length (c .before .before .before .before .before .before .before .args .out .now) < 2 ^ 64
+room c = omega arith
+
+-- how far each goes
+one : (c : tie.After-slice-known2) → Behind (c .before .before .before .before .before .before .before .args .at) (c .before .before .put-reserved .result) (c .before .before .before .before .before .before .before .args .out .now) (c .before .before .put-reserved .last .1 .0)
+one c = put-behind _ _ _ _ _ (c .before .before .before .before .before .before .before .pre .1) (c .before .before .put-reserved .ensures)
+
+two : (c : tie.After-slice-known3) → Behind (c .before .before .before .before .before .before .before .before .before .before .before .before .args .at + c .before .before .before .before .before .before .before .put-reserved .result) (c .before .before .put-value .result) (back (c .before .before .before .before .before .before .before .before .before .before .before .before .args .at) (c .before .before .before .before .before .before .before .before .before .before .before .before .args .out .now) (c .before .before .before .before .before .before .before .put-reserved .last .1 .0)) (c .before .before .put-value .last .1 .1 .1 .0)
+two c = put-behind _ _ _ _ _ (one (c .before .before .before .before .before) .within) (c .before .before .put-value .ensures)
+
+three : (c : tie.After-slice-known4) → Behind (c .before .before .before .before .before .before .before .before .before .before .before .before .before .before .before .before .before .args .at + c .before .before .before .before .before .before .before .before .before .before .before .before .put-reserved .result + c .before .before .before .before .before .before .before .put-value .result) (c .before .before .put-value2 .result) (back (c .before .before .before .before .before .before .before .before .before .before .before .before .before .before .before .before .before .args .at + c .before .before .before .before .before .before .before .before .before .before .before .before .put-reserved .result) (back (c .before .before .before .before .before .before .before .before .before .before .before .before .before .before .before .before .before .args .at) (c .before .before .before .before .before .before .before .before .before .before .before .before .before .before .before .before .before .args .out .now) (c .before .before .before .before .before .before .before .before .before .before .before .before .put-reserved .last .1 .0)) (c .before .before .before .before .before .before .before .put-value .last .1 .1 .1 .0)) (c .before .before .put-value2 .last .1 .1 .1 .0)
+three c = put-behind _ _ _ _ _ (two (c .before .before .before .before .before) .within) (c .before .before .put-value2 .ensures)
+
+sub-put-reserved : tie.Need-sub-put-reserved
+sub-put-reserved c = search needs
+
+part-put-reserved-start : tie.Need-part-put-reserved-start
+part-put-reserved-start c = search needs
+
+part-put-reserved-end : tie.Need-part-put-reserved-end
+part-put-reserved-end c = search needs
+
 put-reserved-requires : tie.Need-put-reserved-requires
 put-reserved-requires c κs = search needs
 
-sub-put-token : tie.Need-sub-put-token
-sub-put-token c = omega arith
+add-a : tie.Need-add-a
+add-a c = fits-behind (one c) (refl) (room c)
 
-part-put-token-start : tie.Need-part-put-token-start
-part-put-token-start c = omega arith
+slice-aggregate-put-value : tie.Need-slice-aggregate-put-value
+slice-aggregate-put-value c = search needs
 
-part-put-token-end : tie.Need-part-put-token-end
-part-put-token-end c = omega arith
+sub-put-value : tie.Need-sub-put-value
+sub-put-value c = one (c .before) .within
 
-put-token-requires : tie.Need-put-token-requires
-put-token-requires c κs = search needs
+part-put-value-start : tie.Need-part-put-value-start
+part-put-value-start c = one (c .before) .within
+
+part-put-value-end : tie.Need-part-put-value-end
+part-put-value-end c = search needs
+
+put-value-requires : tie.Need-put-value-requires
+put-value-requires c κs = search needs
 
 add-b : tie.Need-add-b
-add-b c = omega arith
+add-b c = fits-behind (two c) (one (c .before .before .before .before .before) .same) (room (c .before .before .before .before .before))
 
-sub-put-flag : tie.Need-sub-put-flag
-sub-put-flag c = omega arith
+slice-aggregate-put-value-2 : tie.Need-slice-aggregate-put-value-2
+slice-aggregate-put-value-2 c = search needs
 
-part-put-flag-start : tie.Need-part-put-flag-start
-part-put-flag-start c = omega arith
+sub-put-value-2 : tie.Need-sub-put-value-2
+sub-put-value-2 c = two (c .before) .within
 
-part-put-flag-end : tie.Need-part-put-flag-end
-part-put-flag-end c = omega arith
+part-put-value-start-2 : tie.Need-part-put-value-start-2
+part-put-value-start-2 c = two (c .before) .within
 
-put-flag-requires : tie.Need-put-flag-requires
-put-flag-requires c κs = search needs
+part-put-value-end-2 : tie.Need-part-put-value-end-2
+part-put-value-end-2 c = search needs
+
+put-value-requires-2 : tie.Need-put-value-requires-2
+put-value-requires-2 c κs = search needs
 
 add-end : tie.Need-add-end
-add-end c = omega arith
-
-add-starts : tie.Need-add-starts
-add-starts c = omega arith
+add-end c = fits-behind (three c) (two (c .before .before .before .before .before) .same ∙ one (c .before .before .before .before .before .before .before .before .before .before) .same) (room (c .before .before .before .before .before .before .before .before .before .before))
 
 element-write-starts : tie.Need-element-write-starts
-element-write-starts c = omega arith
-
-add-starts-2 : tie.Need-add-starts-2
-add-starts-2 c = omega arith
+element-write-starts c = search needs
 
 element-write-starts-2 : tie.Need-element-write-starts-2
-element-write-starts-2 c = omega arith
-
-add-starts-3 : tie.Need-add-starts-3
-add-starts-3 c = omega arith
+element-write-starts-2 c = search needs
 
 element-write-starts-3 : tie.Need-element-write-starts-3
-element-write-starts-3 c = omega arith
+element-write-starts-3 c = search needs
 
 same-length : tie.Need-same-length
 same-length c = search needs
 
 returns : tie.Need-returns
-returns c =
-    let a = c .before .before .before .before .before .before .before .before .before .before .before .before .before .args in
-    let x = laid-one 25 12 (a .start) _ _ _ (a .out .now) (a .starts .now) _ refl (c .before .before .before .before .before .before .before .before .before .before .put-reserved .ensures) in
-    let y = laid-more 25 18 12 13 (a .start) _ _ _ _ _ (a .out .now) (a .starts .now) _ _ _ (omega arith) refl refl x (c .before .before .before .before .before .before .put-token .ensures) in
-    laid-more 43 2 12 14 (a .start) _ _ _ _ _ (a .out .now) (a .starts .now) _ _ _ (omega arith) refl refl y (c .before .before .put-flag .ensures)
+unfolding laid idAt ids
+returns c = 
+    let a = c .before .before .before .before .before .before .before .before .before .before .before .before .before .before .before .before .before .args in
+    laid-three _ _ _ 12 (a .at) _ _ _ (a .out .now) _ _ _ (a .starts .now)
+    (c .before .before .before .before .before .before .before .before .before .before .before .before .put-reserved .ensures)
+    (c .before .before .before .before .before .before .before .put-value .ensures)
+    (c .before .before .put-value2 .ensures)
 
 pub put-11-to-13-spec : {M : Type 1} → statement M
 put-11-to-13-spec =
     tie.close
     (tie.spec
+    sub-put-reserved
+    part-put-reserved-start
+    part-put-reserved-end
     put-reserved-requires
-    sub-put-token
-    part-put-token-start
-    part-put-token-end
-    put-token-requires
+    add-a
+    slice-aggregate-put-value
+    sub-put-value
+    part-put-value-start
+    part-put-value-end
+    put-value-requires
     add-b
-    sub-put-flag
-    part-put-flag-start
-    part-put-flag-end
-    put-flag-requires
+    slice-aggregate-put-value-2
+    sub-put-value-2
+    part-put-value-start-2
+    part-put-value-end-2
+    put-value-requires-2
     add-end
-    add-starts
     element-write-starts
-    add-starts-2
     element-write-starts-2
-    add-starts-3
     element-write-starts-3
     same-length
     returns)

@@ -1,24 +1,14 @@
 -- `writer::put_address_value` meets its contract. Assumes nothing.
 use native.Mathlib.Omega.{arith}
-use Rattle.writer.proofs.Stored.{wrote-three}
+use mathlib.Core.List.{append-assoc}
+use Rattle.record.specs.Values.{ofV4, ofV6, familyOut}
+use Rattle.wire.proofs.Stored.{wrote-as, wrote-then}
 use borrow.Author.Needs.{needs}
 use Rattle.writer.proofs.put_address_value.Statement.{statement}
 use Rattle.writer.proofs.put_address_value.Tie as tie
 
-put-v4-requires : tie.Need-put-v4-requires
-put-v4-requires c κs = search needs
-
-sub-put-v6 : tie.Need-sub-put-v6
-sub-put-v6 c = search needs
-
-part-put-v6-start : tie.Need-part-put-v6-start
-part-put-v6-start c = search needs
-
-part-put-v6-end : tie.Need-part-put-v6-end
-part-put-v6-end c = search needs
-
-put-v6-requires : tie.Need-put-v6-requires
-put-v6-requires c κs = search needs
+put-families-requires : tie.Need-put-families-requires
+put-families-requires c κs = search needs
 
 sub-put-cid-and-token : tie.Need-sub-put-cid-and-token
 sub-put-cid-and-token c = search needs
@@ -39,17 +29,15 @@ same-length : tie.Need-same-length
 same-length c = search needs
 
 returns : tie.Need-returns
-returns c = wrote-three 6 18 37 6 18 _ _ _ _ (c .before .before .before .before .before .before .before .before .before .before .before .before .before .args .out .now) _ _ _ (omega arith) (c .before .before .before .before .before .before .before .before .before .before .put-v4 .ensures) (c .before .before .before .before .before .before .put-v6 .ensures) (c .before .before .put-cid-and-token .ensures)
+returns c = 
+    let s = c .before .before .before .before .before .before .before .before .before in
+    wrote-as _ _ _ _ _ _ (append-assoc (familyOut (ofV4 (s .args .v4))) (familyOut (ofV6 (s .args .v6))) _) (wrote-then 24 37 24 _ _ _ (s .args .out .now) _ _ (s .pre .1) (c .before .before .before .before .before .before .put-families .ensures) (c .before .before .put-cid-and-token .ensures))
 
 pub put-address-value-spec : {M : Type 1} → statement M
 put-address-value-spec =
     tie.close
     (tie.spec
-    put-v4-requires
-    sub-put-v6
-    part-put-v6-start
-    part-put-v6-end
-    put-v6-requires
+    put-families-requires
     sub-put-cid-and-token
     part-put-cid-and-token-start
     part-put-cid-and-token-end

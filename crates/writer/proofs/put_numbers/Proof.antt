@@ -1,56 +1,69 @@
 -- `writer::put_numbers` meets its contract. The invariant: the first `i` places are laid. Assumes nothing.
-use Prim.Native.Nat.{_≤_, _-_, _*_}
+use Prim.Native.Nat.{_≤_, _-_, _+_}
 use native.Mathlib.Omega.{arith}
 use mathlib.Core.Path.{_≡_, refl, _∙_}
-use lib.ListN.{length, length-set, length-take, length-drop}
-use Rattle.catalogue.specs.Catalogue.{defaults}
-use Rattle.writer.specs.Stored.{Laid, each, numberAt}
-use Rattle.writer.proofs.Stored.{wrote-length}
-use Rattle.writer.proofs.Laid.{laid-none, number-more, id-short}
+use lib.ListN.{length, length-set}
+use Rattle.catalogue.specs.Catalogue.{ids, idAt, defaults}
+use Rattle.wire.specs.Wire.{numberAt}
+use Rattle.wire.specs.Stored.{each}
+use Rattle.wire.proofs.Put.{Behind, put-behind}
+use Rattle.writer.specs.Laid.{laid}
+use Rattle.writer.proofs.Laid.{number-more}
 use Rattle.writer.proofs.put_numbers.Statement.{statement}
 use Rattle.writer.proofs.put_numbers.Tie as tie
 
 abbrev Inv-loop : tie.InvT-loop
-Inv-loop numbers starts₀ out₀ ids defaults at₀ i₀ starts out at i = (i ≤ 11) × Laid (10 * i) 1 0 (each (numberAt numbers) i) out₀ starts₀ at out starts × (length starts ≡ 22) × (length out ≡ length out₀)
+Inv-loop numbers starts₀ out₀ ids defaults at₀ i₀ starts out at i = (i ≤ 11) × (at ≤ length out) × (length out ≡ length out₀) × (length starts ≡ 22) × ((at, out, starts) ≡ laid (each (numberAt numbers) i) 1 0 out₀ starts₀)
 
 abbrev μ-loop : tie.MeasureT-loop
 μ-loop numbers starts₀ out₀ ids defaults at₀ i₀ starts out at i = 11 - i
 
+-- how far this turn goes
+kept : (c : tie.After-slice-known2 Inv-loop μ-loop) → Behind (c .before .before .before .before .before .before .before .loop .at) (c .before .before .put-number .result) (c .before .before .before .before .before .before .before .loop .out) (c .before .before .put-number .last .1 .1 .1 .0)
+kept c = put-behind _ _ _ _ _ (c .before .before .before .before .before .before .before .loop .inv .1) (c .before .before .put-number .ensures)
+
 loop-holds : tie.Need-loop-holds Inv-loop μ-loop
-unfolding each
-loop-holds c = (omega arith, laid-none 1 0 _ _, c .before .pre .2, refl)
+unfolding each laid
+loop-holds c = (omega arith, omega arith, refl, c .before .pre .1, refl)
 
-array-read-put-unless-default : tie.Need-array-read-put-unless-default Inv-loop μ-loop
-array-read-put-unless-default c = omega arith
+mul-put-number : tie.Need-mul-put-number Inv-loop μ-loop
+mul-put-number c = omega arith
 
-mul-put-unless-default : tie.Need-mul-put-unless-default Inv-loop μ-loop
-mul-put-unless-default c = omega arith
+element-copy-out-put-number : tie.Need-element-copy-out-put-number Inv-loop μ-loop
+element-copy-out-put-number c = omega arith
 
-array-read-put-unless-default-2 : tie.Need-array-read-put-unless-default-2 Inv-loop μ-loop
-array-read-put-unless-default-2 c = omega arith
+mul-put-number-2 : tie.Need-mul-put-number-2 Inv-loop μ-loop
+mul-put-number-2 c = omega arith
 
-mul-put-unless-default-2 : tie.Need-mul-put-unless-default-2 Inv-loop μ-loop
-mul-put-unless-default-2 c = omega arith
+array-read-put-number : tie.Need-array-read-put-number Inv-loop μ-loop
+array-read-put-number c = omega arith
 
-element-copy-out-put-unless-default : tie.Need-element-copy-out-put-unless-default Inv-loop μ-loop
-element-copy-out-put-unless-default c = omega arith
+mul-put-number-3 : tie.Need-mul-put-number-3 Inv-loop μ-loop
+mul-put-number-3 c = omega arith
 
-sub-put-unless-default : tie.Need-sub-put-unless-default Inv-loop μ-loop
-sub-put-unless-default c = omega (arith, c .before .before .loop .inv .1 .wrote .few)
+array-read-put-number-2 : tie.Need-array-read-put-number-2 Inv-loop μ-loop
+array-read-put-number-2 c = omega arith
 
-part-put-unless-default-start : tie.Need-part-put-unless-default-start Inv-loop μ-loop
-part-put-unless-default-start c = omega (arith, c .before .before .loop .inv .1 .wrote .few)
+mul-put-number-4 : tie.Need-mul-put-number-4 Inv-loop μ-loop
+mul-put-number-4 c = omega arith
 
-part-put-unless-default-end : tie.Need-part-put-unless-default-end Inv-loop μ-loop
-part-put-unless-default-end c = omega (arith, c .before .before .loop .inv .1 .wrote .few)
+element-copy-out-put-number-2 : tie.Need-element-copy-out-put-number-2 Inv-loop μ-loop
+element-copy-out-put-number-2 c = omega arith
 
-put-unless-default-requires : tie.Need-put-unless-default-requires Inv-loop μ-loop
-put-unless-default-requires c κs =
-    let l = c .before .before .before .loop in
-    (id-short (l .i) (omega arith), c .before .before .before .before .before .pre .0 (l .i) (omega arith), simp (length-take, length-drop) (omega (arith, l .inv .1 .wrote .few)))
+sub-put-number : tie.Need-sub-put-number Inv-loop μ-loop
+sub-put-number c = omega arith
+
+part-put-number-start : tie.Need-part-put-number-start Inv-loop μ-loop
+part-put-number-start c = omega arith
+
+part-put-number-end : tie.Need-part-put-number-end Inv-loop μ-loop
+part-put-number-end c = omega arith
+
+put-number-requires : tie.Need-put-number-requires Inv-loop μ-loop
+put-number-requires c κs = tt
 
 add-at : tie.Need-add-at Inv-loop μ-loop
-add-at c = omega (arith, c .before .before .before .before .before .before .loop .inv .1 .wrote .few, c .before .before .put-unless-default .ensures .few)
+add-at c = omega (arith, kept c .within, kept c .same)
 
 add-i : tie.Need-add-i Inv-loop μ-loop
 add-i c = omega arith
@@ -65,21 +78,22 @@ loop-less : tie.Need-loop-less Inv-loop μ-loop
 loop-less c = omega arith
 
 loop-again : tie.Need-loop-again Inv-loop μ-loop
-unfolding defaults
-loop-again c =
-    let l = c .before .before .before .before .before .before .loop in
-    let a = c .before .before .before .before .before .before .before .before .args in
-    let w = number-more (a .numbers .now) (l .i) (l .at) _ (a .out .now) (a .starts .now) (l .out) (l .starts) _ (omega arith) (omega arith) (l .inv .1) (c .before .before .put-unless-default .ensures) in
-    (omega arith, w, length-set (l .starts) _ _ ∙ l .inv .2, wrote-length _ _ _ _ _ (omega arith) (w .wrote))
+unfolding numberAt idAt ids defaults
+loop-again c = 
+    let l = c .before .before .before .before .before .before .before .loop in
+    let a = c .before .before .before .before .before .before .before .before .before .args in
+    let k = kept c in
+    (omega arith, k .within, k .same ∙ l .inv .2, length-set (l .starts) _ _ ∙ l .inv .3,
+    number-more (numberAt (a .numbers .now)) (l .i) (l .at) _ (a .out .now) (a .starts .now) (l .out) (l .starts) _ (l .inv .4) (c .before .before .put-number .ensures))
 
 same-length : tie.Need-same-length Inv-loop μ-loop
-same-length c = c .before .loop .inv .3
+same-length c = c .before .loop .inv .2
 
 returns : tie.Need-returns Inv-loop μ-loop
-returns c =
+returns c = 
     let l = c .before .loop in
     let e : l .i ≡ 11 = omega arith in
-    rw e at (l .inv .1)
+    rw e at (l .inv .4)
 
 pub put-numbers-spec : {M : Type 1} → statement M
 put-numbers-spec =
@@ -88,15 +102,18 @@ put-numbers-spec =
     Inv-loop
     μ-loop
     loop-holds
-    array-read-put-unless-default
-    mul-put-unless-default
-    array-read-put-unless-default-2
-    mul-put-unless-default-2
-    element-copy-out-put-unless-default
-    sub-put-unless-default
-    part-put-unless-default-start
-    part-put-unless-default-end
-    put-unless-default-requires
+    mul-put-number
+    element-copy-out-put-number
+    mul-put-number-2
+    array-read-put-number
+    mul-put-number-3
+    array-read-put-number-2
+    mul-put-number-4
+    element-copy-out-put-number-2
+    sub-put-number
+    part-put-number-start
+    part-put-number-end
+    put-number-requires
     add-at
     add-i
     mul-starts

@@ -4,18 +4,21 @@ use native.Mathlib.Omega.{arith}
 use mathlib.Core.Path.{_≡_, refl}
 use lib.ListN.{length, take}
 use lib.Seq.{take-all}
+use Rattle.catalogue.specs.Catalogue.{places}
 use Rattle.writer.specs.Writing.{concatOf}
-use Rattle.writer.specs.Stored.{Wrote, partAt}
-use Rattle.writer.proofs.Stored.{behind, wrote-none, wrote-length}
+use Rattle.writer.specs.Laid.{partAt}
+use Rattle.wire.specs.Stored.{Wrote}
+use Rattle.wire.proofs.Stored.{wrote-none, wrote-length}
+use Rattle.wire.proofs.Put.{Behind, put-behind}
 use Rattle.writer.proofs.Ordered.{Part, part-room, ordered-more}
 use Rattle.writer.proofs.put_ordered.Statement.{statement}
 use Rattle.writer.proofs.put_ordered.Tie as tie
 
 abbrev Inv-loop : tie.InvT-loop
-Inv-loop order starts parts out₀ at₀ k₀ out at k = (k ≤ 21) × Wrote (length out₀) (concatOf (partAt starts parts) (take k order)) out₀ at out × (length out ≡ length out₀)
+Inv-loop order starts parts out₀ at₀ k₀ out at k = (k ≤ places) × Wrote (length out₀) (concatOf (partAt starts parts) (take k order)) out₀ at out × (length out ≡ length out₀)
 
 abbrev μ-loop : tie.MeasureT-loop
-μ-loop order starts parts out₀ at₀ k₀ out at k = 21 - k
+μ-loop order starts parts out₀ at₀ k₀ out at k = places - k
 
 -- the part of this turn
 this : (c : tie.After-wide Inv-loop μ-loop)
@@ -68,14 +71,13 @@ part-put-bytes-end-2 : tie.Need-part-put-bytes-end-2 Inv-loop μ-loop
 part-put-bytes-end-2 c = omega arith
 
 put-bytes-requires : tie.Need-put-bytes-requires Inv-loop μ-loop
-unfolding partAt
-put-bytes-requires c κs = behind _ _ (c .before .before .before .before .before .before .before .loop .out) (omega (arith, this (c .before .before .before .before) .room))
+put-bytes-requires c κs = tt
 
-sub-at : tie.Need-sub-at Inv-loop μ-loop
-sub-at c = this (c .before .before .before .before .before .before .before) .forward
+kept : (c : tie.After-slice-known2 Inv-loop μ-loop) → Behind (c .before .before .before .before .before .before .before .before .before .before .loop .at) (c .before .before .put-bytes .result) (c .before .before .before .before .before .before .before .before .before .before .loop .out) (c .before .before .put-bytes .last .1 .0)
+kept c = let l = c .before .before .before .before .before .before .before .before .before .before .loop in put-behind _ _ _ _ _ (omega (arith, l .inv .1 .few)) (c .before .before .put-bytes .ensures)
 
 add-at : tie.Need-add-at Inv-loop μ-loop
-add-at c = omega (arith, this (c .before .before .before .before .before .before .before) .room, this (c .before .before .before .before .before .before .before) .long)
+add-at c = omega (arith, kept c .within, kept c .same)
 
 add-k : tie.Need-add-k Inv-loop μ-loop
 add-k c = omega arith
@@ -88,8 +90,7 @@ unfolding partAt
 loop-again c =
     let s = c .before .before .before .before .before .before .before .before .before .before .before .before .before in
     let l = c .before .before .before .before .before .before .before .before .before .before .loop in
-    let t = this (c .before .before .before .before .before .before .before) in
-    let w = ordered-more (partAt (s .args .starts .now) (s .args .parts .now)) (s .args .order .now) (l .k) (omega (arith, s .pre .long)) (c .before .before .before .before .before .before .before .wide .result) (l .at) _ (s .args .out .now) (l .out) _ (s .pre .room) (l .inv .1) (c .before .before .before .before .before .before .before .wide .ensures) (t .long) (c .before .before .put-bytes .ensures) in
+    let w = ordered-more (partAt (s .args .starts .now) (s .args .parts .now)) (s .args .order .now) (l .k) (omega (arith, s .pre .long)) (c .before .before .before .before .before .before .before .wide .result) (l .at) _ (s .args .out .now) (l .out) _ (s .pre .room) (l .inv .1) (c .before .before .before .before .before .before .before .wide .ensures) (c .before .before .put-bytes .ensures) in
     (omega arith, w, wrote-length _ _ _ _ _ (omega arith) w)
 
 same-length : tie.Need-same-length Inv-loop μ-loop
@@ -123,7 +124,6 @@ put-ordered-spec =
     part-put-bytes-start-2
     part-put-bytes-end-2
     put-bytes-requires
-    sub-at
     add-at
     add-k
     loop-less

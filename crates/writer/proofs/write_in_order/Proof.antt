@@ -3,7 +3,7 @@ use mathlib.Core.Path.{_≡_, sym, _∙_}
 use mathlib.Core.Bool.{true}
 use borrow.Author.Tests.{not-true, not-false}
 use Rattle.record.specs.Record.{wellFormed}
-use Rattle.writer.proofs.Catalogue.{formed}
+use Rattle.writer.proofs.Places.{formed}
 use Rattle.writer.proofs.Answers.{write-ill, write-invalid, write-in-order}
 use borrow.Author.Needs.{needs}
 use Rattle.writer.proofs.write_in_order.Statement.{statement}

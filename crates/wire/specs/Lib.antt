@@ -1,0 +1,2 @@
+pub mod Wire
+pub mod Stored

@@ -1,0 +1,86 @@
+-- The parts of a record that are handed to the writers, and the value of a preferred address. Assumes nothing.
+use Prim.Native.Nat.{ℕ, suc, _+_, _-_, _/_, _%_, _≤_, _<_}
+use mathlib.Core.List.{List, [], _∷_, _++_}
+use mathlib.Core.Path.{_≡_, refl, ap, sym, _∙_}
+use mathlib.Core.Bool.{true}
+use native.Mathlib.Omega.{arith}
+use native.Mathlib.Nat.{mod-eq-of-lt, div-one}
+use native.Mathlib.Numerals.{add-one}
+use lib.ListN.{length, take, drop, set, length-append}
+use lib.Seq.{length-take-le, take-append-seam, drop-append-add, drop-drop, sets-eq}
+use borrow.Author.Tests.{eqb-true, leb-true}
+use Rattle.refusal.specs.Outcome.{Outcome, accepted, refused, front}
+use Rattle.refusal.proofs.Laws.{all-at}
+use Rattle.varint.specs.Number.{bytesOf}
+use Rattle.connection_id.specs.declared.ConnectionId.{ConnectionId}
+use Rattle.connection_id.specs.ConnectionId.{cidBytes, cidWire, formedCid, writeCid}
+use Rattle.connection_id.proofs.Laws.{cid-facts, cid-length}
+use Rattle.record.specs.declared.OptionalConnectionId.{OptionalConnectionId}
+use Rattle.record.specs.declared.PreferredAddress.{PreferredAddress}
+use Rattle.record.specs.declared.ReservedTransportParameter.{ReservedTransportParameter}
+use Rattle.record.specs.Values.{Family, familyOut}
+use Rattle.record.specs.Record.{formedOptionalCid, formedAddress, formedReserved}
+use Rattle.wire.specs.Wire.{put}
+use Rattle.wire.specs.Stored.{Wrote}
+use Rattle.wire.proofs.Stored.{lent, back, length-front, lent-room, stored-whole, wrote-then}
+use Rattle.wire.proofs.Put.{put-wrote}
+
+-- the first n of an array
+pub prefix : (n m : ℕ) (l : List ℕ) → m ≤ length l → n ≡ m → (n ≤ length l) × (n ≡ length (take n l))
+prefix n m l h e = (omega arith, sym (length-take-le n l (omega arith)))
+
+pub cid-room : (o : OptionalConnectionId) → formedOptionalCid o ≡ true → o .cid .len ≤ length (o .cid .bytes)
+unfolding formedOptionalCid
+cid-room o h = let k = cid-facts (o .cid) (all-at _ h 0) in omega (arith, k .long, k .within)
+
+pub payload-room : (x : ReservedTransportParameter) → formedReserved x ≡ true → x .«payload_len» ≤ length (x .payload)
+unfolding formedReserved
+payload-room x h = omega (arith, eqb-true (length (x .payload)) 16 (all-at _ h 0), leb-true (x .«payload_len») 16 (all-at _ h 2))
+
+pub address-id : (a : PreferredAddress) → formedAddress a ≡ true → formedCid (a .«connection_id») ≡ true
+unfolding formedAddress
+address-id a h = all-at _ h 2
+
+-- A PREFERRED ADDRESS
+pub family-stored : (n x : ℕ) (ip out m : List ℕ) → length ip + 2 ≤ length out → x < 65536 → (n, m) ≡ put ip out
+    → (n ≡ length ip) × (set (set m n (x / 256)) (n + 1) (x % 256) ≡ front (ip ++ bytesOf 2 x) out)
+unfolding front
+family-stored n x ip out m h k e =
+    let w = put-wrote (length out) n ip out m (omega arith) (omega arith) e in
+    let c = w .count in
+    let l : length m ≡ length out = ap length (w .bytes) ∙ length-front ip out (omega arith) in
+    let hi : x / 256 < 256 = omega arith in
+    let p : List ℕ = x / 256 ∷ x % 256 ∷ [] in
+    let t : take n m ≡ ip = rw (c, w .bytes) (take-append-seam ip (drop (length ip) out)) in
+    let d : drop (n + 2) m ≡ drop (length ip + 2) out = rw (c, w .bytes) (drop-append-add ip (drop (length ip) out) 2 ∙ drop-drop 2 (length ip) out) in
+    (c, rw (mod-eq-of-lt hi, div-one, add-one) (sets-eq p m n (omega arith) ∙ rw (t, d, length-append ip p)))
+
+pub family-wrote : (n : ℕ) (f : Family) (l m : List ℕ) → length (f .1) ≡ n → m ≡ front (f .1 ++ bytesOf 2 (f .2)) l → Wrote (n + 2) (familyOut f) l (n + 2) m
+unfolding familyOut
+family-wrote n f l m e q =
+    record { count = rw (length-append (f .1) (bytesOf 2 (f .2))) (omega arith); few = omega arith; bytes = q }
+
+module _ (c : ConnectionId) (o : Outcome ℕ) (out m : List ℕ) (f : formedCid c ≡ true) (h : 21 ≤ length out) (e : (o, m) ≡ writeCid c out) where
+  long : length (cidWire c) ≤ 21
+  long = let k = cid-facts c f in omega (arith, cid-length c k, k .within)
+
+  accept : _≡_ {A = Outcome ℕ × List ℕ} (o, m) (accepted (length (cidWire c)), front (cidWire c) out)
+  unfolding writeCid
+  accept = e ∙ rw f (sym (stored-whole 21 (length (cidWire c)) (cidWire c) out _ (omega (arith, long)) (record { count = refl; few = long; bytes = refl })))
+
+  pub cid-encoded : (n : ℕ) → o ≡ accepted n → Wrote 21 (cidWire c) out n m
+  cid-encoded n g =
+      let a : o ≡ accepted (length (cidWire c)) = ap (λ (p : Outcome ℕ × List ℕ). p .0) accept in
+      let k : n ≡ length (cidWire c) = cc in
+      record { count = k; few = omega (arith, long); bytes = ap (λ (p : Outcome ℕ × List ℕ). p .1) accept }
+
+  pub cid-never : {P : Type 0} (r : ℕ) → o ≡ refused r → P
+  cid-never r g =
+      let a : o ≡ accepted (length (cidWire c)) = ap (λ (p : Outcome ℕ × List ℕ). p .0) accept in
+      let z : _≡_ {A = ℕ} 0 1 = cc in
+      absurd (omega arith)
+
+pub token-behind : (n k : ℕ) (a t out m ys : List ℕ) → 37 ≤ length out → length t ≡ 16 → Wrote 21 a out n m → (k, ys) ≡ put t (lent n m)
+    → Wrote 37 (a ++ t) out (n + k) (back n m ys)
+token-behind n k a t out m ys h e w q =
+    wrote-then 21 16 n k a t out m ys h w (put-wrote 16 k t (lent n m) ys (omega arith) (lent-room 21 16 n a out m h w) q)

@@ -1,0 +1,59 @@
+-- `writer::put_families` meets its contract. Assumes nothing.
+use native.Mathlib.Omega.{arith}
+use mathlib.Core.Path.{_≡_}
+use lib.ListN.{length}
+use Rattle.record.specs.Values.{ofV4, ofV6}
+use Rattle.wire.proofs.Stored.{behind, wrote-then}
+use Rattle.writer.proofs.Parts.{family-wrote}
+use borrow.Author.Needs.{needs}
+use Rattle.writer.proofs.put_families.Statement.{statement}
+use Rattle.writer.proofs.put_families.Tie as tie
+
+-- what the types say
+known : (c : tie.Start) → (length (c .args .v4 .ip) ≡ 4) × (length (c .args .v6 .ip) ≡ 16)
+known c = (search needs, search needs)
+
+slice-aggregate-put-family : tie.Need-slice-aggregate-put-family
+slice-aggregate-put-family c = search needs
+
+put-family-requires : tie.Need-put-family-requires
+put-family-requires c κs = omega (arith, known (c .before .before .before .before .before) .0)
+
+slice-aggregate-put-family-2 : tie.Need-slice-aggregate-put-family-2
+slice-aggregate-put-family-2 c = search needs
+
+sub-put-family : tie.Need-sub-put-family
+sub-put-family c = search needs
+
+part-put-family-start : tie.Need-part-put-family-start
+part-put-family-start c = search needs
+
+part-put-family-end : tie.Need-part-put-family-end
+part-put-family-end c = search needs
+
+put-family-requires-2 : tie.Need-put-family-requires-2
+put-family-requires-2 c κs = behind _ 6 (c .before .before .before .before .put-family .last .1 .1 .0) (omega (arith, known (c .before .before .before .before .before .before .before .before .before .before) .1))
+
+same-length : tie.Need-same-length
+same-length c = search needs
+
+returns : tie.Need-returns
+returns c = 
+    let s = c .before .before .before .before .before .before .before .before .before .before .before .before .before in
+    let a = s .args in
+    wrote-then 6 18 6 18 _ _ (a .out .now) _ _ (s .pre) (family-wrote 4 (ofV4 (a .v4)) _ _ (known s .0) (c .before .before .before .before .before .before .before .put-family .ensures))
+    (family-wrote 16 (ofV6 (a .v6)) _ _ (known s .1) (c .before .before .put-family2 .ensures))
+
+pub put-families-spec : {M : Type 1} → statement M
+put-families-spec =
+    tie.close
+    (tie.spec
+    slice-aggregate-put-family
+    put-family-requires
+    slice-aggregate-put-family-2
+    sub-put-family
+    part-put-family-start
+    part-put-family-end
+    put-family-requires-2
+    same-length
+    returns)

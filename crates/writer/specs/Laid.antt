@@ -1,0 +1,39 @@
+-- Parameters laid one after another, with their ends noted; and copied from there in an order.
+use Prim.Native.Nat.{ℕ, suc, _+_, _-_, _≤_, _<_}
+use mathlib.Core.List.{List, [], _∷_, _++_}
+use mathlib.Core.Path.{_≡_}
+use lib.ListN.{length, getD, take, drop, set}
+use Rattle.connection_id.specs.ConnectionId.{cidBytes}
+use Rattle.record.specs.declared.PreferredAddress.{PreferredAddress}
+use Rattle.catalogue.specs.Catalogue.{places}
+use Rattle.record.specs.Values.{ofV4, ofV6, familyOut}
+use Rattle.wire.specs.Wire.{put}
+use Rattle.writer.specs.Writing.{concatOf}
+
+-- parameters behind the first `at` bytes of a buffer, and their ends from entry k of the notes on: how far they go, the buffer, the notes
+unfoldable pub laid : List (List ℕ) → ℕ → ℕ → List ℕ → List ℕ → ℕ × List ℕ × List ℕ
+laid [] k at out starts = (at, out, starts)
+laid (s ∷ ss) k at out starts =
+    laid ss (suc k) (at + put s (drop at out) .0) (take at out ++ put s (drop at out) .1) (set starts k (at + put s (drop at out) .0))
+
+-- where each ends, if the first starts at b and there is room
+unfoldable pub endsFrom : ℕ → List (List ℕ) → List ℕ
+endsFrom b [] = []
+endsFrom b (s ∷ ss) = (b + length s) ∷ endsFrom (b + length s) ss
+
+-- the value of a preferred address
+abbrev pub addressBytes : PreferredAddress → List ℕ
+addressBytes a =
+    familyOut (ofV4 (a .«address_v4»))
+    ++ (familyOut (ofV6 (a .«address_v6»)) ++ (a .«connection_id» .len ∷ (cidBytes (a .«connection_id») ++ a .«stateless_reset_token» .bytes)))
+
+-- the parameter at place p, of parts whose places start where the list says
+unfoldable pub partAt : List ℕ → List ℕ → ℕ → List ℕ
+partAt starts parts p = take (getD starts (p + 1) 0 - getD starts p 0) (drop (getD starts p 0) parts)
+
+-- each place of an order has its part, and there is room for all of them
+pub record InOrder (order starts parts out : List ℕ) : Type 0 where
+  pub long : length order ≡ places
+  pub each-place : (k : ℕ) → k < places → getD order k 0 < places
+  pub each-part : (p : ℕ) → p < places → (getD starts p 0 ≤ getD starts (p + 1) 0) × (getD starts (p + 1) 0 ≤ length parts)
+  pub room : length (concatOf (partAt starts parts) order) ≤ length out
