@@ -11,6 +11,8 @@ use lib.Seq.{length-take-le, getD-take, getD-drop}
 use lib.Dec.{ltb}
 use borrow.Author.Tests.{ltb-true}
 use Rattle.refusal.specs.Outcome.{Result, accepted, refused, Outcome, pick, andThen, all}
+use Rattle.refusal.specs.Number.{numberOf}
+use Rattle.refusal.proofs.Laws.{inverted, picked}
 use Rattle.words.specs.Words.{elements}
 use Rattle.connection_id.specs.ConnectionId.{cidOf}
 use Rattle.marks.specs.Mark.{marked}
@@ -18,19 +20,21 @@ use Rattle.catalogue.specs.Catalogue.{Kind, number, cid, token, address, kinds,
 use Rattle.catalogue.proofs.Places.{number-kind}
 use Rattle.record.specs.declared.OptionalNumber.the-variants.{Absent, Present}
 use Rattle.record.specs.declared.TransportParameters.{TransportParameters}
-use Rattle.record.specs.Values.{Values, noValues, isSome, numberIn, optionalIn, cidIn, tokenIn, addressIn, numbersIn, recordOf}
+use Rattle.record.proofs.KindLaws.{Fits, IfSome}
+use Rattle.record.specs.Values.{Bytes, Values, noValues, isSome, numberIn, optionalIn, cidIn, tokenIn, addressIn, numbersIn, recordOf}
 use Rattle.record.specs.Record.{least, defaultRecord}
 use Rattle.rules.specs.declared.Side.{Side}
 use Rattle.rules.specs.Rules.{isServer, numberRules, presenceRules, valueRules}
 use Rattle.front.specs.declared.Fault.{Fault}
 use Rattle.front.specs.declared.Fault.the-variants.{Illegal}
-use Rattle.front.specs.Answer.{numbered}
+use Rattle.front.specs.Answer.{refusedWith, numbered}
 use Rattle.index.specs.Index.{Found, nothing, indexFrom, idLen, keptRules, indexed, Sound}
 use Rattle.reader.specs.Reading.{parse, judge, read}
 use Rattle.refusal.specs.Answer.{answerOutcome, settledBy}
 use Rattle.reader.specs.declared.Reading.{Reading}
 use Rattle.reader.specs.Kept.{valueAt, optionalAt, recordFrom, KeptAt, refusedReading}
 use Rattle.reader.proofs.Built.{address-facts, id-len}
+use Rattle.reader.proofs.Grow.{grown}
 use Rattle.reader.proofs.Agree.{Agrees, Related, related}
 
 -- kinds that are no numbers
@@ -177,3 +181,26 @@ read-kept side s f r e h = rw (e, read-indexed side s, h)
 -- a part that was lent by its start and its length
 pub lent : (a n : ℕ) (s : List ℕ) → take (a + n - a) (drop a s) ≡ take n (drop a s)
 lent a n s = let e : a + n - a ≡ n = omega arith in rw e
+
+-- each value that is kept is a good one
+pub kept-good : (side : Side) (s : List ℕ) (f : Found) → Bytes s → indexed side s ≡ accepted f → (p : ℕ) → (kindAt p ≡ number → ⊥) → IfSome (Fits (kindAt p)) (valueAt s f p)
+unfolding indexed
+kept-good side s f hb e p n =
+    inverted (indexFrom s 0 nothing) _ f e λ g ge gf.
+    picked (keptRules side s g) g f Illegal gf λ t q.
+    go (indexFrom s 0 nothing) (parse noValues s) (related s) (ge ∙ ap accepted q) refl
+  where
+    go : (o : Result Fault Found) (q : Result Fault Values) → Related s o q → o ≡ accepted f → parse noValues s ≡ q → IfSome (Fits (kindAt p)) (valueAt s f p)
+    go (accepted g) (accepted l) r h k =
+        let z : g ≡ f = cc in
+        let a : Agrees s f l = subst (λ (x : Found). Agrees s x l) z (r .1) in
+        subst (IfSome (Fits (kindAt p))) (a .value-at p n) (grown l s hb k .0 p)
+    go (accepted g) (refused x) r h k = absurd r
+    go (refused y) (accepted l) r h k = absurd r
+    go (refused y) (refused x) r h k = let z : _≡_ {A = ℕ} 0 1 = cc in absurd (omega arith)
+
+pub read-recorded : (side : Side) (s : List ℕ) (f : Found) → indexed side s ≡ accepted f → read side s ≡ accepted (recordFrom s f)
+read-recorded side s f h = read-indexed side s ∙ rw h
+
+pub read-faulty : (side : Side) (s : List ℕ) (x : Fault) → indexed side s ≡ refused x → read side s ≡ refused (numberOf (refusedWith x))
+read-faulty side s x h = read-indexed side s ∙ rw h

@@ -1,3 +1,2 @@
-pub mod Due
-pub mod Pieces
 pub mod Laws
+pub mod Pieces

@@ -1,3 +1,2 @@
 pub mod Tidying
 pub mod Pieces
-pub mod Answer

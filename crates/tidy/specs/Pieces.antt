@@ -1,66 +1,42 @@
 -- What tidying writes, as it is found: from the numbers, and from where the values stand in the extension.
-use Prim.Native.Nat.{ℕ, _-_, _<_}
-use mathlib.Core.Path.{_≡_}
-use mathlib.Core.List.{List, _++_}
-use mathlib.Core.Option.{Option, none, some}
-use mathlib.Core.Bool.{Bool}
-use lib.ListN.{getD}
-use Rattle.refusal.specs.Outcome.{pick}
-use Rattle.varint.specs.Number.{bound, numberBytes}
+use Prim.Native.Nat.{ℕ, _+_, _≤_}
+use mathlib.Core.List.{List, [], _∷_, _++_}
+use lib.ListN.{length, getD, take, drop}
 use Rattle.marks.specs.Mark.{marked}
-use Rattle.catalogue.specs.Catalogue.{Kind, number, flag, cid, token, address, reserved, kindAt, parameterIf}
-use Rattle.record.specs.Values.{flagOut}
-use Rattle.reader.specs.Index.{spans, Spanned, Received}
-use Rattle.writer.specs.Stored.{joined, each, numberAt}
+use Rattle.catalogue.specs.Catalogue.{number, idAt, kindAt}
+use Rattle.wire.specs.Wire.{dueValue, dueNumber, numberAt}
+use Rattle.wire.specs.Stored.{each}
+use mathlib.Core.Path.{_≡_}
 
--- a value, and a number, if it is due
-abbrev pub ifDue : Bool → List ℕ → Option (List ℕ)
-ifDue due v = pick due (some v) none
+-- where a value that is no number stands
+unfoldable pub spanAt : List ℕ → List ℕ → List ℕ → ℕ → List ℕ
+spanAt s kept lens p = take (getD lens p 0) (drop (getD kept p 0) s)
 
-abbrev pub numberIf : Bool → ℕ → Option (List ℕ)
-numberIf due x = ifDue due (numberBytes x)
-
--- the longest value that is copied, by its kind
-unfoldable pub longestOf : Kind → ℕ
-longestOf number = 0
-longestOf flag = 0
-longestOf cid = 20
-longestOf token = 16
-longestOf address = 61
-longestOf reserved = 0
-
-unfoldable pub longestAt : ℕ → ℕ
-longestAt p = longestOf (kindAt p)
-
--- what was found at a place that holds no number
-pub record Bytewise (src : List ℕ) (m : ℕ) (from to : List ℕ) (p : ℕ) : Type 0 where
-  pub bytes : kindAt p ≡ number → ⊥
-  pub spanned : Spanned (kindAt p) src m from to p
-
-abbrev pub LowNumbers : List ℕ → Type 0
-LowNumbers n = (p : ℕ) → kindAt p ≡ number → getD n p 0 < bound
-
--- what was found in an extension in which nothing is at fault
-pub record Kept (src : List ℕ) (m : ℕ) (n from to : List ℕ) : Type 0 where
-  pub received : Received src m n from to
-  pub low : LowNumbers n
+-- values that are no numbers lie within the extension
+abbrev pub Kept : List ℕ → List ℕ → List ℕ → Type 0
+Kept s kept lens = (p : ℕ) → (kindAt p ≡ number → ⊥) → getD kept p 0 + getD lens p 0 ≤ length s
 
 -- places 12 to 14, 15 to 17, and 18 to 20
-unfoldable pub from12 : List ℕ → ℕ → List ℕ → List ℕ → List ℕ → List ℕ
-from12 src m n from to =
-    parameterIf 0x02 (spans src m from to 12)
-    ++ (parameterIf 0x0c (spans src m from to 13) ++ parameterIf 0x20 (numberIf (marked m 14) (getD n 14 0)))
+unfoldable pub from12 : List ℕ → ℕ → List ℕ → List ℕ → List (List ℕ)
+from12 s m kept lens =
+    dueValue (marked m 12) (idAt 12) (spanAt s kept lens 12)
+    ∷ dueValue (marked m 13) (idAt 13) []
+    ∷ dueNumber (marked m 14) (idAt 14) (getD kept 14 0)
+    ∷ []
 
-unfoldable pub from15 : List ℕ → ℕ → List ℕ → List ℕ → List ℕ
-from15 src m from to =
-    parameterIf 0x0d (spans src m from to 15)
-    ++ (parameterIf 0x00 (spans src m from to 16) ++ parameterIf 0x0f (spans src m from to 17))
+unfoldable pub from15 : List ℕ → ℕ → List ℕ → List ℕ → List (List ℕ)
+from15 s m kept lens =
+    dueValue (marked m 15) (idAt 15) (spanAt s kept lens 15)
+    ∷ dueValue (marked m 16) (idAt 16) (spanAt s kept lens 16)
+    ∷ dueValue (marked m 17) (idAt 17) (spanAt s kept lens 17)
+    ∷ []
 
-unfoldable pub from18 : List ℕ → ℕ → List ℕ → List ℕ → List ℕ → List ℕ
-from18 src m n from to =
-    parameterIf 0x10 (spans src m from to 18)
-    ++ (parameterIf 0x2ab2 (flagOut (marked m 19)) ++ parameterIf 0xff04de1b (numberIf (marked m 20) (getD n 20 0)))
+unfoldable pub from18 : List ℕ → ℕ → List ℕ → List ℕ → List (List ℕ)
+from18 s m kept lens =
+    dueValue (marked m 18) (idAt 18) (spanAt s kept lens 18)
+    ∷ dueValue (marked m 19) (idAt 19) []
+    ∷ dueNumber (marked m 20) (idAt 20) (getD kept 20 0)
+    ∷ []
 
-unfoldable pub pieces : List ℕ → ℕ → List ℕ → List ℕ → List ℕ → List ℕ
-pieces src m n from to =
-    joined (each (numberAt n) 11) ++ (from12 src m n from to ++ (from15 src m from to ++ from18 src m n from to))
+unfoldable pub pieces : List ℕ → ℕ → List ℕ → List ℕ → List (List ℕ)
+pieces s m kept lens = each (numberAt kept) 11 ++ (from12 s m kept lens ++ (from15 s m kept lens ++ from18 s m kept lens))

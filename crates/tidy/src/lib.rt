@@ -1,260 +1,201 @@
 // Tidying an extension: reading it for a side, and writing what was read in its one shortest form. The parameters are written straight from
 // where they were found; no record stands between.
 ghost use mathlib.Core.Path.{_≡_};
-ghost use mathlib.Core.Bool.{true};
+ghost use mathlib.Core.List.{[]};
 ghost use Prim.Native.Nat.{_+_, _≤_, _<_};
-ghost use lib.ListN.{length};
-ghost use Rattle.refusal.specs.Outcome.{front, store};
-ghost use Rattle.varint.specs.Number.{bound};
-ghost use Rattle.catalogue.specs.Catalogue.{parameterIf};
-ghost use Rattle.record.specs.Values.{flagOut};
-ghost use Rattle.reader.specs.Index.{spans};
-ghost use Rattle.writer.specs.Stored.{Wrote, joined, each, numberAt};
-ghost use Rattle.tidy.specs.Tidying.{tidy};
+ghost use lib.ListN.{length, getD};
+ghost use Rattle.refusal.specs.Outcome.{store};
 ghost use Rattle.refusal.specs.Answer.{countOutcome};
-ghost use Rattle.tidy.specs.Pieces.{ifDue, numberIf, longestAt, Bytewise, LowNumbers, Kept, from12, from15, from18, pieces};
-use reader::Scanned;
+ghost use Rattle.marks.specs.Mark.{marked};
+ghost use Rattle.catalogue.specs.Catalogue.{places};
+ghost use Rattle.wire.specs.Wire.{put, dueValue, numberAt};
+ghost use Rattle.wire.specs.Stored.{joined, each};
+ghost use Rattle.writer.specs.Laid.{laid};
+ghost use Rattle.tidy.specs.Tidying.{tidy};
+ghost use Rattle.tidy.specs.Pieces.{spanAt, Kept, from12, from15, from18, pieces};
+use catalogue::DEFAULTS;
+use catalogue::DISABLE_ACTIVE_MIGRATION;
+use catalogue::GREASE_QUIC_BIT;
+use catalogue::IDS;
+use catalogue::INITIAL_SRC_CID;
+use catalogue::MAX_DATAGRAM_FRAME_SIZE;
+use catalogue::MAX_EXTENSION;
+use catalogue::MIN_ACK_DELAY;
+use catalogue::NUMBERS;
+use catalogue::ORIGINAL_DST_CID;
+use catalogue::PLACES;
+use catalogue::PREFERRED_ADDRESS;
+use catalogue::RETRY_SRC_CID;
+use catalogue::STATELESS_RESET_TOKEN;
+use index::Scanned;
+use marks::is_marked;
 use refusal::Counted;
 use refusal::Refusal;
 use rules::Side;
-use varint::VarInt;
+use wire::put_bytes;
+use wire::put_number;
+use wire::put_value;
 
-// What tidying gives: how many bytes it stored.
-pub enum Tidied {
-    Count(usize),
-    Refused(Refusal),
-}
+const TOKEN_ID: u64 = IDS[STATELESS_RESET_TOKEN];
 
-// No extension is longer.
-const MAX_SIZE: usize = 314;
+const MIGRATION_ID: u64 = IDS[DISABLE_ACTIVE_MIGRATION];
 
-// Stores the bytes at the front of `out`.
-fn put_bytes(bytes: &[u8], out: &mut [u8])
-    requires { ⌜ length (now bytes) ≤ length (now out) ⌝ }
-    ensures { λ r. ⌜ now (out .exit) ≡ front (now (bytes .entry)) (now (out .entry)) ⌝ }
-{
-    let mut i: usize = 0;
-    while i < bytes.len() {
-        out[i] = bytes[i];
-        i += 1;
-    }
-}
+const DATAGRAM_ID: u64 = IDS[MAX_DATAGRAM_FRAME_SIZE];
 
-// Each stores a parameter, if it is due, for which there is room: one that holds a number, and one whose value is copied.
-fn put_number(due: bool, id: u8, x: u64, out: &mut [u8]) -> usize
-    requires { ⌜ (id < 64) × (x < bound) × (10 ≤ length (now out)) ⌝ }
-    ensures { λ r. ⌜ Wrote 10 (parameterIf id (numberIf due x)) (now (out .entry)) r (now (out .exit)) ⌝ }
-{
-    if !due {
-        return 0;
-    }
-    let Counted::Count(n) = VarInt(x).encode(&mut out[2..]) else {
-        return 0;
-    };
-    out[0] = id;
-    out[1] = n as u8;
-    n + 2
-}
+const ADDRESS_ID: u64 = IDS[PREFERRED_ADDRESS];
 
-fn put_value(due: bool, id: u8, v: &[u8], out: &mut [u8]) -> usize
-    requires { ⌜ (id < 64) × (due ≡ true → (length (now v) < 64) × (length (now v) + 2 ≤ length (now out))) ⌝ }
-    ensures { λ r. ⌜ Wrote (length (now (v .entry)) + 2) (parameterIf id (ifDue due (now (v .entry)))) (now (out .entry)) r (now (out .exit)) ⌝ }
-{
-    if !due {
-        return 0;
-    }
-    let n = v.len();
-    put_bytes(v, &mut out[2..]);
-    out[0] = id;
-    out[1] = n as u8;
-    n + 2
-}
+const ORIGINAL_ID: u64 = IDS[ORIGINAL_DST_CID];
+
+const INITIAL_ID: u64 = IDS[INITIAL_SRC_CID];
+
+const RETRY_ID: u64 = IDS[RETRY_SRC_CID];
+
+const GREASE_ID: u64 = IDS[GREASE_QUIC_BIT];
+
+const ACK_DELAY_ID: u64 = IDS[MIN_ACK_DELAY];
 
 // The value that was found at a place.
 fn put_at(
     place: usize,
-    id: u8,
+    id: u64,
     src: &[u8],
     marks: u32,
-    from: &[usize; 21],
-    to: &[usize; 21],
+    kept: &[u64; PLACES],
+    lens: &[u8; PLACES],
     out: &mut [u8],
 ) -> usize
-    requires { ⌜ (place < 21) × (id < 64) × Bytewise (now src) marks (now from) (now to) place × (longestAt place + 2 ≤ length (now out)) ⌝ }
-    ensures { λ r. ⌜ Wrote (longestAt place + 2) (parameterIf id (spans (now (src .entry)) marks (now (from .entry)) (now (to .entry)) place)) (now (out .entry)) r (now (out .exit)) ⌝ }
+    requires { ⌜ (place < places) × (getD (now kept) place 0 + getD (now lens) place 0 ≤ length (now src)) ⌝ }
+    ensures { λ r. ⌜ (r, now (out .exit)) ≡ put (dueValue (marked marks place) id (spanAt (now (src .entry)) (now (kept .entry)) (now (lens .entry)) place)) (now (out .entry)) ⌝ }
 {
-    let f = from[place];
-    let t = to[place];
-    put_value(marks::is_marked(marks, place), id, &src[f..t], out)
+    let start = kept[place] as usize;
+    let end = start + (lens[place] as usize);
+    put_value(is_marked(marks, place), id, &src[start..end], out)
 }
-
-// grease_quic_bit, whose identifier, 0x2ab2, is two bytes long.
-fn put_grease_quic_bit(due: bool, out: &mut [u8]) -> usize
-    requires { ⌜ 3 ≤ length (now out) ⌝ }
-    ensures { λ r. ⌜ Wrote 3 (parameterIf 0x2ab2 (flagOut due)) (now (out .entry)) r (now (out .exit)) ⌝ }
-{
-    if !due {
-        return 0;
-    }
-    out[0] = 0x6a;
-    out[1] = 0xb2;
-    out[2] = 0;
-    3
-}
-
-// min_ack_delay: the last byte of its identifier, 0xff04de1b, is an identifier of one byte.
-fn put_min_ack_delay(due: bool, x: u64, out: &mut [u8]) -> usize
-    requires { ⌜ (x < bound) × (17 ≤ length (now out)) ⌝ }
-    ensures { λ r. ⌜ Wrote 17 (parameterIf 0xff04de1b (numberIf due x)) (now (out .entry)) r (now (out .exit)) ⌝ }
-{
-    if !due {
-        return 0;
-    }
-    out[0] = 0xc0;
-    out[1] = 0;
-    out[2] = 0;
-    out[3] = 0;
-    out[4] = 0xff;
-    out[5] = 0x04;
-    out[6] = 0xde;
-    7 + put_number(true, 0x1b, x, &mut out[7..])
-}
-
-// Of places 0 to 10.
-const NUMBER_IDS: [u8; 11] = [
-    0x01,
-    0x03,
-    0x04,
-    0x05,
-    0x06,
-    0x07,
-    0x08,
-    0x09,
-    0x0a,
-    0x0b,
-    0x0e,
-];
-
-const DEFAULTS: [u64; 11] = [0, 65527, 0, 0, 0, 0, 0, 0, 3, 25, 2];
 
 // The numbers of places 0 to 10, but for those that are the default.
-fn put_numbers(n: &[u64; 21], out: &mut [u8]) -> usize
-    requires { ⌜ (length (now n) ≡ 21) × LowNumbers (now n) × (110 ≤ length (now out)) ⌝ }
-    ensures { λ r. ⌜ Wrote 110 (joined (each (numberAt (now (n .entry))) 11)) (now (out .entry)) r (now (out .exit)) ⌝ }
+fn put_numbers(kept: &[u64; PLACES], out: &mut [u8]) -> usize
+    ensures { λ r. ⌜ (r, now (out .exit), []) ≡ laid (each (numberAt (now (kept .entry))) 11) 1 0 (now (out .entry)) [] ⌝ }
 {
-    let ids = NUMBER_IDS;
+    let ids = IDS;
     let defaults = DEFAULTS;
     let mut at: usize = 0;
     let mut i: usize = 0;
-    while i < 11 {
-        at += put_number(n[i] != defaults[i], ids[i], n[i], &mut out[at..]);
+    while i < NUMBERS {
+        at += put_number(kept[i] != defaults[i], ids[i], kept[i], &mut out[at..]);
         i += 1;
     }
     at
 }
 
-// What was found at the places behind them, in catalogue order: stateless_reset_token, disable_active_migration, max_datagram_frame_size.
+// What was found at the places behind them, in catalogue order, behind the first `at` bytes.
 fn put_12_to_14(
     src: &[u8],
     marks: u32,
-    n: &[u64; 21],
-    from: &[usize; 21],
-    to: &[usize; 21],
+    kept: &[u64; PLACES],
+    lens: &[u8; PLACES],
+    at: usize,
     out: &mut [u8],
 ) -> usize
-    requires { ⌜ Kept (now src) marks (now n) (now from) (now to) × (30 ≤ length (now out)) ⌝ }
-    ensures { λ r. ⌜ Wrote 30 (from12 (now (src .entry)) marks (now (n .entry)) (now (from .entry)) (now (to .entry))) (now (out .entry)) r (now (out .exit)) ⌝ }
+    requires { ⌜ Kept (now src) (now kept) (now lens) × (at ≤ length (now out)) ⌝ }
+    ensures { λ r. ⌜ (r, now (out .exit), []) ≡ laid (from12 (now (src .entry)) marks (now (kept .entry)) (now (lens .entry))) 12 at (now (out .entry)) [] ⌝ }
 {
-    let a = put_at(12, 0x02, src, marks, from, to, out);
-    let b = a + put_at(13, 0x0c, src, marks, from, to, &mut out[a..]);
-    b + put_number(marks::is_marked(marks, 14), 0x20, n[14], &mut out[b..])
+    let a = at + put_at(STATELESS_RESET_TOKEN, TOKEN_ID, src, marks, kept, lens, &mut out[at..]);
+    let b = a + put_value(is_marked(marks, DISABLE_ACTIVE_MIGRATION), MIGRATION_ID, &[], &mut out[a..]);
+    b + put_number(
+        is_marked(marks, MAX_DATAGRAM_FRAME_SIZE),
+        DATAGRAM_ID,
+        kept[MAX_DATAGRAM_FRAME_SIZE],
+        &mut out[b..],
+    )
 }
 
-// preferred_address, original_dst_cid, initial_src_cid.
 fn put_15_to_17(
     src: &[u8],
     marks: u32,
-    n: &[u64; 21],
-    from: &[usize; 21],
-    to: &[usize; 21],
+    kept: &[u64; PLACES],
+    lens: &[u8; PLACES],
+    at: usize,
     out: &mut [u8],
 ) -> usize
-    requires { ⌜ Kept (now src) marks (now n) (now from) (now to) × (107 ≤ length (now out)) ⌝ }
-    ensures { λ r. ⌜ Wrote 107 (from15 (now (src .entry)) marks (now (from .entry)) (now (to .entry))) (now (out .entry)) r (now (out .exit)) ⌝ }
+    requires { ⌜ Kept (now src) (now kept) (now lens) × (at ≤ length (now out)) ⌝ }
+    ensures { λ r. ⌜ (r, now (out .exit), []) ≡ laid (from15 (now (src .entry)) marks (now (kept .entry)) (now (lens .entry))) 15 at (now (out .entry)) [] ⌝ }
 {
-    let a = put_at(15, 0x0d, src, marks, from, to, out);
-    let b = a + put_at(16, 0x00, src, marks, from, to, &mut out[a..]);
-    b + put_at(17, 0x0f, src, marks, from, to, &mut out[b..])
+    let a = at + put_at(PREFERRED_ADDRESS, ADDRESS_ID, src, marks, kept, lens, &mut out[at..]);
+    let b = a + put_at(ORIGINAL_DST_CID, ORIGINAL_ID, src, marks, kept, lens, &mut out[a..]);
+    b + put_at(INITIAL_SRC_CID, INITIAL_ID, src, marks, kept, lens, &mut out[b..])
 }
 
-// retry_src_cid, grease_quic_bit, min_ack_delay.
 fn put_18_to_20(
     src: &[u8],
     marks: u32,
-    n: &[u64; 21],
-    from: &[usize; 21],
-    to: &[usize; 21],
+    kept: &[u64; PLACES],
+    lens: &[u8; PLACES],
+    at: usize,
     out: &mut [u8],
 ) -> usize
-    requires { ⌜ Kept (now src) marks (now n) (now from) (now to) × (42 ≤ length (now out)) ⌝ }
-    ensures { λ r. ⌜ Wrote 42 (from18 (now (src .entry)) marks (now (n .entry)) (now (from .entry)) (now (to .entry))) (now (out .entry)) r (now (out .exit)) ⌝ }
+    requires { ⌜ Kept (now src) (now kept) (now lens) × (at ≤ length (now out)) ⌝ }
+    ensures { λ r. ⌜ (r, now (out .exit), []) ≡ laid (from18 (now (src .entry)) marks (now (kept .entry)) (now (lens .entry))) 18 at (now (out .entry)) [] ⌝ }
 {
-    let a = put_at(18, 0x10, src, marks, from, to, out);
-    let b = a + put_grease_quic_bit(marks::is_marked(marks, 19), &mut out[a..]);
-    b + put_min_ack_delay(marks::is_marked(marks, 20), n[20], &mut out[b..])
+    let a = at + put_at(RETRY_SRC_CID, RETRY_ID, src, marks, kept, lens, &mut out[at..]);
+    let b = a + put_value(is_marked(marks, GREASE_QUIC_BIT), GREASE_ID, &[], &mut out[a..]);
+    b + put_number(
+        is_marked(marks, MIN_ACK_DELAY),
+        ACK_DELAY_ID,
+        kept[MIN_ACK_DELAY],
+        &mut out[b..],
+    )
 }
 
-// All of it, for which there is room.
+// All of it.
 fn put_all(
     src: &[u8],
     marks: u32,
-    n: &[u64; 21],
-    from: &[usize; 21],
-    to: &[usize; 21],
+    kept: &[u64; PLACES],
+    lens: &[u8; PLACES],
     out: &mut [u8],
 ) -> usize
-    requires { ⌜ Kept (now src) marks (now n) (now from) (now to) × (314 ≤ length (now out)) ⌝ }
-    ensures { λ r. ⌜ Wrote 314 (pieces (now (src .entry)) marks (now (n .entry)) (now (from .entry)) (now (to .entry))) (now (out .entry)) r (now (out .exit)) ⌝ }
+    requires { ⌜ Kept (now src) (now kept) (now lens) ⌝ }
+    ensures { λ r. ⌜ (r, now (out .exit), []) ≡ laid (pieces (now (src .entry)) marks (now (kept .entry)) (now (lens .entry))) 1 0 (now (out .entry)) [] ⌝ }
 {
-    let a = put_numbers(n, out);
-    let b = a + put_12_to_14(src, marks, n, from, to, &mut out[a..]);
-    let e = b + put_15_to_17(src, marks, n, from, to, &mut out[b..]);
-    e + put_18_to_20(src, marks, n, from, to, &mut out[e..])
+    let a = put_numbers(kept, out);
+    let b = put_12_to_14(src, marks, kept, lens, a, out);
+    let e = put_15_to_17(src, marks, kept, lens, b, out);
+    put_18_to_20(src, marks, kept, lens, e, out)
 }
 
 // It goes straight to a buffer that has room for any.
-fn put(
+fn put_tidied(
     src: &[u8],
     marks: u32,
-    n: &[u64; 21],
-    from: &[usize; 21],
-    to: &[usize; 21],
+    kept: &[u64; PLACES],
+    lens: &[u8; PLACES],
     out: &mut [u8],
-) -> Tidied
-    requires { ⌜ Kept (now src) marks (now n) (now from) (now to) ⌝ }
-    ensures { λ r. ⌜ (countOutcome r, now (out .exit)) ≡ store (pieces (now (src .entry)) marks (now (n .entry)) (now (from .entry)) (now (to .entry))) (now (out .entry)) ⌝ }
+) -> Counted
+    requires { ⌜ Kept (now src) (now kept) (now lens) × (length (joined (pieces (now src) marks (now kept) (now lens))) ≤ 314) ⌝ }
+    ensures { λ r. ⌜ (countOutcome r, now (out .exit)) ≡ store (joined (pieces (now (src .entry)) marks (now (kept .entry)) (now (lens .entry)))) (now (out .entry)) ⌝ }
 {
-    if MAX_SIZE <= out.len() {
-        return Counted::Count(put_all(src, marks, n, from, to, out));
+    if MAX_EXTENSION <= out.len() {
+        return Counted::Count(put_all(src, marks, kept, lens, out));
     }
-    let mut parts = [0u8; 314];
-    let count = put_all(src, marks, n, from, to, &mut parts);
-    if out.len() < count {
+    let mut parts = [0u8; MAX_EXTENSION];
+    let n = put_all(src, marks, kept, lens, &mut parts);
+    if out.len() < n {
         return Counted::Refused(Refusal::BufferTooShort);
     }
-    put_bytes(&parts[..count], out);
-    Counted::Count(count)
+    put_bytes(&parts[..n], out);
+    Counted::Count(n)
 }
 
 // Tidies `src` to the front of `out`.
-pub fn tidy(side: Side, src: &[u8], out: &mut [u8]) -> Tidied
+pub fn tidy(side: Side, src: &[u8], out: &mut [u8]) -> Counted
     ensures { λ r. ⌜ (countOutcome r, now (out .exit)) ≡ tidy side (now (src .entry)) (now (out .entry)) ⌝ }
 {
-    let mut numbers = [0u64; 21];
-    let mut from = [0usize; 21];
-    let mut to = [0usize; 21];
-    match reader::index(side, src, &mut numbers, &mut from, &mut to) {
+    let entries = index::index(side, src);
+    let found = entries.found;
+    let kept = entries.kept;
+    let lens = entries.lens;
+    match found {
         Scanned::Stopped(fault) => Counted::Refused(fault.refusal()),
-        Scanned::Marks(met) => put(src, met, &numbers, &from, &to, out),
+        Scanned::Marks(marks) => put_tidied(src, marks, &kept, &lens, out),
     }
 }
