@@ -111,7 +111,7 @@ pub struct TransportParameters {
     pub stateless_reset_token: Option<ResetToken>,
     pub preferred_address: Option<PreferredAddress>,
     pub grease_transport_parameter: Option<ReservedTransportParameter>,
-    pub write_order: Option<[u8; 21]>,
+    pub write_order: Option<[u8; TransportParameters::PLACES]>,
 }
 
 impl PartialEq for TransportParameters {
@@ -133,6 +133,12 @@ impl Default for TransportParameters {
 impl TransportParameters {
     /// The longest extension, in bytes.
     pub const MAX_SIZE: usize = 314;
+    /// How many places an order has.
+    pub const PLACES: usize = 21;
+    /// The largest draw that building takes.
+    pub const MAX_DRAW: u64 = (1 << 62) - 28;
+    /// The longest reserved payload that building takes, in bytes.
+    pub const MAX_DRAWN_PAYLOAD: usize = 15;
 
     /// Reads an extension for a side, the one that **reads**: a server reads what a client sent by `Side::Server`. Gives the record, or
     /// the first fault.

@@ -54,9 +54,9 @@ fn refusals() {
     let built = |draw, payload: &[u8]| {
         TransportParameters::new(&Settings::default(), ConnectionId::new(&[]).unwrap(), draw, payload, &(0..21).collect::<Vec<u8>>())
     };
-    assert_eq!(built((1 << 62) - 27, &[]), Err(Error::InvalidDraw));
-    assert_eq!(built(0, &[0; 16]), Err(Error::InvalidDraw));
-    assert!(built((1 << 62) - 28, &[0; 15]).is_ok());
+    assert_eq!(built(TransportParameters::MAX_DRAW + 1, &[]), Err(Error::InvalidDraw));
+    assert_eq!(built(0, &[0; TransportParameters::MAX_DRAWN_PAYLOAD + 1]), Err(Error::InvalidDraw));
+    assert!(built(TransportParameters::MAX_DRAW, &[0; TransportParameters::MAX_DRAWN_PAYLOAD]).is_ok());
 }
 
 #[test]
