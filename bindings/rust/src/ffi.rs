@@ -4,7 +4,7 @@ pub const CID_SIZE: usize = 21;
 pub const SETTINGS: usize = 12;
 
 extern "C" {
-    pub fn yuthpram_number_size(value: u64) -> u8;
+    fn yuthpram_number_size(value: u64) -> u8;
     pub fn yuthpram_number_read(src: *const u8, src_len: usize, value: *mut u64, count: *mut usize) -> u8;
     pub fn yuthpram_number_write(value: u64, out: *mut u8, out_len: usize, count: *mut usize) -> u8;
     pub fn yuthpram_cid_read(src: *const u8, src_len: usize, cid: *mut u8, cid_len: usize, count: *mut usize) -> u8;
@@ -31,4 +31,9 @@ extern "C" {
     ) -> u8;
     pub fn yuthpram_validate_resumption_from(record: *const u8, record_len: usize, cached: *const u8, cached_len: usize) -> u8;
     pub fn yuthpram_issue_cids_limit(record: *const u8, record_len: usize, limit: *mut u64) -> u8;
+}
+
+/// How many bytes the shortest form of a number below 2^62 has.
+pub fn number_size(value: u64) -> usize {
+    unsafe { yuthpram_number_size(value) as usize }
 }

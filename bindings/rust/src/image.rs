@@ -1,7 +1,7 @@
 //! The 303-byte image in which a record crosses the C interface.
 use crate::ffi::{CID_SIZE, RECORD_SIZE};
-use crate::{ConnectionId, PreferredAddress, ReservedTransportParameter, ResetToken, TransportParameters, VarInt};
-use std::net::{SocketAddrV4, SocketAddrV6};
+use crate::{AddressV6, ConnectionId, PreferredAddress, ReservedTransportParameter, ResetToken, TransportParameters, VarInt};
+use std::net::SocketAddrV4;
 
 pub type Image = [u8; RECORD_SIZE];
 
@@ -49,7 +49,7 @@ pub fn image_of(p: &TransportParameters) -> Image {
     w.cid(p.initial_src_cid);
     w.cid(p.retry_src_cid);
     w.flag(p.stateless_reset_token.is_some());
-    w.bytes(&p.stateless_reset_token.map_or([0; 16], |t| t.0));
+    w.bytes(&p.stateless_reset_token.map_or([0; 16], Into::into));
     address(&mut w, p.preferred_address);
     let r = p.grease_transport_parameter;
     w.flag(r.is_some());
@@ -69,10 +69,10 @@ fn address(w: &mut Writer, a: Option<PreferredAddress>) {
     w.bytes(&v4.map_or(0, |v| v.port()).to_be_bytes());
     let v6 = a.and_then(|a| a.address_v6);
     w.flag(v6.is_some());
-    w.bytes(&v6.map_or([0; 16], |v| v.ip().octets()));
-    w.bytes(&v6.map_or(0, |v| v.port()).to_be_bytes());
+    w.bytes(&v6.map_or([0; 16], |v| v.ip.octets()));
+    w.bytes(&v6.map_or(0, |v| v.port).to_be_bytes());
     w.bytes(&a.map_or([0; CID_SIZE], |a| a.connection_id.image()));
-    w.bytes(&a.map_or([0; 16], |a| a.stateless_reset_token.0));
+    w.bytes(&a.map_or([0; 16], |a| a.stateless_reset_token.into()));
 }
 
 struct Reader<'a> {
@@ -121,7 +121,7 @@ pub fn record_of(image: &Image) -> TransportParameters {
     p.initial_src_cid = r.cid();
     p.retry_src_cid = r.cid();
     let present = r.flag();
-    let token = ResetToken(r.bytes());
+    let token = ResetToken::from(r.bytes());
     p.stateless_reset_token = present.then_some(token);
     p.preferred_address = read_address(&mut r);
     let present = r.flag();
@@ -138,9 +138,9 @@ fn read_address(r: &mut Reader<'_>) -> Option<PreferredAddress> {
     let v4 = r.flag();
     let address_v4 = SocketAddrV4::new(r.bytes::<4>().into(), u16::from_be_bytes(r.bytes()));
     let v6 = r.flag();
-    let address_v6 = SocketAddrV6::new(r.bytes::<16>().into(), u16::from_be_bytes(r.bytes()), 0, 0);
+    let address_v6 = AddressV6 { ip: r.bytes::<16>().into(), port: u16::from_be_bytes(r.bytes()) };
     let connection_id = ConnectionId::from_image(r.bytes());
-    let stateless_reset_token = ResetToken(r.bytes());
+    let stateless_reset_token = ResetToken::from(r.bytes());
     present.then_some(PreferredAddress {
         address_v4: v4.then_some(address_v4),
         address_v6: v6.then_some(address_v6),

@@ -14,274 +14,23 @@
 //! ```
 #![warn(missing_docs)]
 
+mod error;
 mod ffi;
 mod image;
+mod types;
 
-use std::fmt;
-use std::net::{SocketAddrV4, SocketAddrV6};
-use std::ops::Deref;
-
-/// Why an operation declined.
-#[derive(Debug, Copy, Clone, Eq, PartialEq, Hash)]
-pub enum Error {
-    /// 1: an extension, or a connection ID behind a length byte, that cannot be read.
-    Malformed,
-    /// 2: a parameter whose value is not allowed.
-    IllegalValue,
-    /// 3: the input ends within a number.
-    UnexpectedEnd,
-    /// 4: a number of 2^62 or more.
-    VarIntBoundsExceeded,
-    /// 5: the output is shorter than the bytes due.
-    BufferTooShort,
-    /// 6: an order that is not a permutation of 0 to 20.
-    InvalidOrder,
-    /// 7: a record or connection ID that is not well formed.
-    IllFormed,
-    /// 8: a remembered limit was reduced.
-    LimitReduced,
-    /// 9: a drawn value out of range.
-    InvalidDraw,
-}
-
-impl Error {
-    /// The refusal's number.
-    pub fn number(self) -> u8 {
-        match self {
-            Error::Malformed => 1,
-            Error::IllegalValue => 2,
-            Error::UnexpectedEnd => 3,
-            Error::VarIntBoundsExceeded => 4,
-            Error::BufferTooShort => 5,
-            Error::InvalidOrder => 6,
-            Error::IllFormed => 7,
-            Error::LimitReduced => 8,
-            Error::InvalidDraw => 9,
-        }
-    }
-
-    /// The QUIC transport error code that the refusal travels as (RFC 9000 section 20.1), if a peer caused it.
-    ///
-    /// ```
-    /// use yuthpram::{Error, Side, TransportParameters};
-    /// let e = TransportParameters::read(Side::Client, &[0x0e, 0x01, 0x01]).unwrap_err();
-    /// assert_eq!((e, e.number(), e.code()), (Error::IllegalValue, 2, Some(0x08)));
-    /// ```
-    pub fn code(self) -> Option<u64> {
-        match self {
-            Error::Malformed | Error::IllegalValue => Some(0x08),
-            Error::LimitReduced => Some(0x0a),
-            _ => None,
-        }
-    }
-
-    fn of(number: u8) -> Result<(), Error> {
-        Err(match number {
-            0 => return Ok(()),
-            1 => Error::Malformed,
-            2 => Error::IllegalValue,
-            3 => Error::UnexpectedEnd,
-            4 => Error::VarIntBoundsExceeded,
-            5 => Error::BufferTooShort,
-            6 => Error::InvalidOrder,
-            7 => Error::IllFormed,
-            8 => Error::LimitReduced,
-            _ => Error::InvalidDraw,
-        })
-    }
-}
-
-impl fmt::Display for Error {
-    fn fmt(&self, f: &mut fmt::Formatter<'_>) -> fmt::Result {
-        f.write_str(match self {
-            Error::Malformed => "parameters were malformed",
-            Error::IllegalValue => "parameter had illegal value",
-            Error::UnexpectedEnd => "unexpected end of buffer",
-            Error::VarIntBoundsExceeded => "value too large for varint encoding",
-            Error::BufferTooShort => "output too short",
-            Error::InvalidOrder => "order is not a permutation of the places",
-            Error::IllFormed => "record or connection ID is not well formed",
-            Error::LimitReduced => "0-RTT accepted with incompatible transport parameters",
-            Error::InvalidDraw => "drawn value out of range",
-        })
-    }
-}
-
-impl std::error::Error for Error {}
-
-/// Who reads or checks an extension.
-#[derive(Debug, Copy, Clone, Eq, PartialEq, Hash)]
-pub enum Side {
-    /// The initiator of a connection.
-    Client,
-    /// The acceptor of a connection.
-    Server,
-}
-
-impl Side {
-    fn byte(self) -> u8 {
-        self as u8
-    }
-}
-
-/// A number below 2^62 (RFC 9000 section 16).
-#[derive(Default, Debug, Copy, Clone, Eq, PartialEq, Ord, PartialOrd, Hash)]
-pub struct VarInt(u64);
-
-impl VarInt {
-    /// The largest number.
-    pub const MAX: Self = Self((1 << 62) - 1);
-    /// The longest form, in bytes.
-    pub const MAX_SIZE: usize = 8;
-
-    /// Construct from a `u32`.
-    pub const fn from_u32(x: u32) -> Self {
-        Self(x as u64)
-    }
-
-    /// Succeeds if `x` < 2^62.
-    pub const fn from_u64(x: u64) -> Result<Self, Error> {
-        if x <= Self::MAX.0 {
-            Ok(Self(x))
-        } else {
-            Err(Error::VarIntBoundsExceeded)
-        }
-    }
-
-    /// The number.
-    pub const fn into_inner(self) -> u64 {
-        self.0
-    }
-
-    /// How many bytes the shortest form has.
-    pub fn size(self) -> usize {
-        unsafe { ffi::yuthpram_number_size(self.0) as usize }
-    }
-
-    /// The number at the front of `src`, and how many bytes it takes.
-    ///
-    /// ```
-    /// use yuthpram::VarInt;
-    /// assert_eq!(VarInt::decode(&[0x7b, 0xbd, 0xff])?, (VarInt::from_u32(15_293), 2));
-    /// # Ok::<(), yuthpram::Error>(())
-    /// ```
-    pub fn decode(src: &[u8]) -> Result<(Self, usize), Error> {
-        let (mut value, mut count) = (0, 0);
-        Error::of(unsafe { ffi::yuthpram_number_read(src.as_ptr(), src.len(), &mut value, &mut count) })?;
-        Ok((Self(value), count))
-    }
-
-    /// Writes the shortest form to the front of `out`, and gives its length.
-    pub fn encode(self, out: &mut [u8]) -> Result<usize, Error> {
-        let mut count = 0;
-        Error::of(unsafe { ffi::yuthpram_number_write(self.0, out.as_mut_ptr(), out.len(), &mut count) })?;
-        Ok(count)
-    }
-
-    /// Of a number that the library gave.
-    pub(crate) fn trusted(x: u64) -> Self {
-        Self(x)
-    }
-}
-
-impl From<u32> for VarInt {
-    fn from(x: u32) -> Self {
-        Self::from_u32(x)
-    }
-}
-
-/// A connection ID of at most 20 bytes.
-#[derive(Copy, Clone, Eq, PartialEq, Ord, PartialOrd, Hash)]
-pub struct ConnectionId {
-    len: u8,
-    bytes: [u8; 20],
-}
-
-impl ConnectionId {
-    /// The longest ID, in bytes.
-    pub const MAX_SIZE: usize = 20;
-
-    /// The ID of these bytes.
-    pub fn new(bytes: &[u8]) -> Result<Self, Error> {
-        if Self::MAX_SIZE < bytes.len() {
-            return Err(Error::IllFormed);
-        }
-        let mut c = Self { len: bytes.len() as u8, bytes: [0; 20] };
-        c.bytes[..bytes.len()].copy_from_slice(bytes);
-        Ok(c)
-    }
-
-    /// The ID behind the length byte at the front of `src`, and how many bytes they take together.
-    pub fn decode_long(src: &[u8]) -> Result<(Self, usize), Error> {
-        let (mut image, mut count) = ([0; ffi::CID_SIZE], 0);
-        Error::of(unsafe { ffi::yuthpram_cid_read(src.as_ptr(), src.len(), image.as_mut_ptr(), image.len(), &mut count) })?;
-        Ok((Self::from_image(image), count))
-    }
-
-    /// Writes the length byte and the ID to the front of `out`.
-    pub fn encode_long(&self, out: &mut [u8]) -> Result<usize, Error> {
-        let (image, mut count) = (self.image(), 0);
-        Error::of(unsafe { ffi::yuthpram_cid_write(image.as_ptr(), image.len(), out.as_mut_ptr(), out.len(), &mut count) })?;
-        Ok(count)
-    }
-
-    pub(crate) fn image(&self) -> [u8; ffi::CID_SIZE] {
-        let mut b = [0; ffi::CID_SIZE];
-        b[0] = self.len;
-        b[1..].copy_from_slice(&self.bytes);
-        b
-    }
-
-    pub(crate) fn from_image(b: [u8; ffi::CID_SIZE]) -> Self {
-        let mut c = Self { len: b[0], bytes: [0; 20] };
-        c.bytes.copy_from_slice(&b[1..]);
-        c
-    }
-}
-
-impl Deref for ConnectionId {
-    type Target = [u8];
-    fn deref(&self) -> &[u8] {
-        &self.bytes[..self.len as usize]
-    }
-}
-
-impl fmt::Debug for ConnectionId {
-    fn fmt(&self, f: &mut fmt::Formatter<'_>) -> fmt::Result {
-        self.deref().fmt(f)
-    }
-}
-
-/// A stateless reset token.
-#[derive(Debug, Copy, Clone, Eq, PartialEq, Hash)]
-pub struct ResetToken(pub [u8; 16]);
-
-/// A server's preferred address.
-#[derive(Debug, Copy, Clone, Eq, PartialEq)]
-pub struct PreferredAddress {
-    /// The IPv4 address, if offered.
-    pub address_v4: Option<SocketAddrV4>,
-    /// The IPv6 address, if offered.
-    pub address_v6: Option<SocketAddrV6>,
-    /// The ID to use with it.
-    pub connection_id: ConnectionId,
-    /// The token of that ID.
-    pub stateless_reset_token: ResetToken,
-}
-
-/// A reserved parameter, sent so that peers go on skipping unknown ones.
-#[derive(Debug, Copy, Clone, Eq, PartialEq)]
-pub struct ReservedTransportParameter {
-    /// An identifier with remainder 27 on division by 31.
-    pub id: VarInt,
-    /// The payload, zeros after it.
-    pub payload: [u8; 16],
-    /// How many bytes the payload has.
-    pub payload_len: u8,
-}
+pub use error::Error;
+pub use types::{AddressV6, ConnectionId, PreferredAddress, ReservedTransportParameter, ResetToken, Side, VarInt};
 
 /// What building takes besides a connection ID and drawn values: quinn's configuration, as `TransportParameters::new` uses it.
-#[derive(Debug, Copy, Clone, Default)]
+/// The defaults are quinn's, of a client.
+///
+/// ```
+/// use yuthpram::Settings;
+/// let of_server = Settings { server_migration: Some(true), ..Settings::default() };
+/// assert_eq!(of_server.max_udp_payload_size, 1472);
+/// ```
+#[derive(Debug, Copy, Clone)]
 pub struct Settings {
     /// Streams that the peer may open.
     pub max_concurrent_bidi_streams: u64,
@@ -305,8 +54,40 @@ pub struct Settings {
     pub server_migration: Option<bool>,
 }
 
-/// Transport parameters, to send or as received.
-#[derive(Debug, Copy, Clone, Eq, PartialEq)]
+impl Default for Settings {
+    fn default() -> Self {
+        // 100 milliseconds at 12,500,000 bytes a second
+        const STREAM_RECEIVE_WINDOW: u64 = 1_250_000;
+        Self {
+            max_concurrent_bidi_streams: 100,
+            max_concurrent_uni_streams: 100,
+            receive_window: VarInt::MAX.into_inner(),
+            stream_receive_window: STREAM_RECEIVE_WINDOW,
+            max_idle_timeout: Some(30_000),
+            max_udp_payload_size: 1472,
+            grease_quic_bit: true,
+            datagram_receive_buffer_size: Some(STREAM_RECEIVE_WINDOW),
+            cid_len: 8,
+            server_migration: None,
+        }
+    }
+}
+
+/// Transport parameters, to send or as received. Two are equal if they say the same to a peer: the order of writing and the reserved
+/// parameter, which a peer skips, are left out.
+///
+/// ```
+/// use yuthpram::{ReservedTransportParameter, TransportParameters};
+/// let plain = TransportParameters::default();
+/// let mut greased = plain;
+/// greased.grease_transport_parameter = Some(ReservedTransportParameter::new(27u32.into(), b"cue")?);
+/// greased.write_order = Some(std::array::from_fn(|i| 20 - i as u8));
+/// assert_eq!(greased, plain);
+/// greased.grease_quic_bit = true;
+/// assert_ne!(greased, plain);
+/// # Ok::<(), yuthpram::Error>(())
+/// ```
+#[derive(Debug, Copy, Clone, Eq)]
 #[allow(missing_docs)]
 pub struct TransportParameters {
     pub max_idle_timeout: VarInt,
@@ -330,7 +111,14 @@ pub struct TransportParameters {
     pub stateless_reset_token: Option<ResetToken>,
     pub preferred_address: Option<PreferredAddress>,
     pub grease_transport_parameter: Option<ReservedTransportParameter>,
-    pub write_order: Option<[u8; 21]>,
+    pub write_order: Option<[u8; TransportParameters::PLACES]>,
+}
+
+impl PartialEq for TransportParameters {
+    fn eq(&self, other: &Self) -> bool {
+        let said = |p: &Self| image::image_of(&Self { grease_transport_parameter: None, write_order: None, ..*p });
+        types::differing_bits(&said(self), &said(other)) == 0
+    }
 }
 
 impl Default for TransportParameters {
@@ -345,8 +133,23 @@ impl Default for TransportParameters {
 impl TransportParameters {
     /// The longest extension, in bytes.
     pub const MAX_SIZE: usize = 314;
+    /// How many places an order has.
+    pub const PLACES: usize = 21;
+    /// The largest draw that building takes.
+    pub const MAX_DRAW: u64 = (1 << 62) - 28;
+    /// The longest reserved payload that building takes, in bytes.
+    pub const MAX_DRAWN_PAYLOAD: usize = 15;
 
-    /// Reads an extension for a side: the record, or the first fault.
+    /// Reads an extension for a side, the one that **reads**: a server reads what a client sent by `Side::Server`. Gives the record, or
+    /// the first fault.
+    ///
+    /// ```
+    /// use yuthpram::{Error, Side, TransportParameters};
+    /// assert_eq!(TransportParameters::read(Side::Client, &[]), Ok(TransportParameters::default()));
+    /// // original_dst_cid: only a server sends it, so only a client may read it.
+    /// assert!(TransportParameters::read(Side::Client, &[0x00, 0x00]).is_ok());
+    /// assert_eq!(TransportParameters::read(Side::Server, &[0x00, 0x00]), Err(Error::IllegalValue));
+    /// ```
     pub fn read(side: Side, src: &[u8]) -> Result<Self, Error> {
         let mut image = [0; ffi::RECORD_SIZE];
         Error::of(unsafe { ffi::yuthpram_read(side.byte(), src.as_ptr(), src.len(), image.as_mut_ptr(), image.len()) })?;
@@ -371,7 +174,15 @@ impl TransportParameters {
         Ok(count)
     }
 
-    /// Checks the record for a side, without reading or writing it.
+    /// Checks the record for a side, the one that **reads** it, without reading or writing it: a server that checks what it is about to
+    /// send asks `Side::Client`.
+    ///
+    /// ```
+    /// use yuthpram::{Error, ResetToken, Side, TransportParameters};
+    /// let of_server = TransportParameters { stateless_reset_token: Some(ResetToken::from([7; 16])), ..Default::default() };
+    /// assert_eq!(of_server.check(Side::Client), Ok(()));
+    /// assert_eq!(of_server.check(Side::Server), Err(Error::IllegalValue));
+    /// ```
     pub fn check(&self, side: Side) -> Result<(), Error> {
         let image = image::image_of(self);
         Error::of(unsafe { ffi::yuthpram_check(image.as_ptr(), image.len(), side.byte()) })
@@ -381,11 +192,10 @@ impl TransportParameters {
     ///
     /// ```
     /// use yuthpram::{ConnectionId, Settings, TransportParameters};
-    /// let settings = Settings { max_udp_payload_size: 1472, cid_len: 8, ..Settings::default() };
     /// let order: Vec<u8> = (0..21).rev().collect();
-    /// let params = TransportParameters::new(&settings, ConnectionId::new(&[1, 2, 3])?, 1000, b"cue", &order)?;
+    /// let params = TransportParameters::new(&Settings::default(), ConnectionId::new(&[1, 2, 3])?, 1000, b"cue", &order)?;
     /// assert_eq!(params.active_connection_id_limit.into_inner(), 5);
-    /// assert_eq!(params.grease_transport_parameter.unwrap().id.into_inner(), 31 * 32 + 27);
+    /// assert_eq!(params.grease_transport_parameter.unwrap().id().into_inner(), 31 * 32 + 27);
     /// # Ok::<(), yuthpram::Error>(())
     /// ```
     pub fn new(settings: &Settings, initial_src_cid: ConnectionId, draw: u64, payload: &[u8], order: &[u8]) -> Result<Self, Error> {
@@ -423,13 +233,27 @@ impl TransportParameters {
         Ok(image::record_of(&image))
     }
 
-    /// Checks that these parameters are legal when resuming from certain cached parameters.
+    /// Checks that these parameters are legal when resuming from certain cached parameters. Called on the record that the server sent
+    /// now; `cached` is the remembered one.
+    ///
+    /// ```
+    /// use yuthpram::{Error, TransportParameters};
+    /// let of_limit = |n: u32| TransportParameters { initial_max_data: n.into(), ..Default::default() };
+    /// let (fresh, remembered) = (of_limit(5), of_limit(8));
+    /// assert_eq!(fresh.validate_resumption_from(&remembered), Err(Error::LimitReduced));
+    /// assert_eq!(remembered.validate_resumption_from(&fresh), Ok(()));
+    /// ```
     pub fn validate_resumption_from(&self, cached: &Self) -> Result<(), Error> {
         let (image, cached) = (image::image_of(self), image::image_of(cached));
         Error::of(unsafe { ffi::yuthpram_validate_resumption_from(image.as_ptr(), image.len(), cached.as_ptr(), cached.len()) })
     }
 
     /// Maximum number of connection IDs to issue to this peer.
+    ///
+    /// ```
+    /// use yuthpram::TransportParameters;
+    /// assert_eq!(TransportParameters::default().issue_cids_limit(), 2);
+    /// ```
     pub fn issue_cids_limit(&self) -> u64 {
         let (image, mut limit) = (image::image_of(self), 0);
         let number = unsafe { ffi::yuthpram_issue_cids_limit(image.as_ptr(), image.len(), &mut limit) };
@@ -482,11 +306,18 @@ impl TransportParameters {
 }
 
 /// Whether an order is a permutation of 0 to 20.
+///
+/// ```
+/// use yuthpram::{check_order, Error};
+/// let order: Vec<u8> = (0..21).rev().collect();
+/// assert_eq!(check_order(&order), Ok(()));
+/// assert_eq!(check_order(&order[1..]), Err(Error::InvalidOrder));
+/// ```
 pub fn check_order(order: &[u8]) -> Result<(), Error> {
     Error::of(unsafe { ffi::yuthpram_check_order(order.as_ptr(), order.len()) })
 }
 
-/// Reads an extension for a side and writes its one shortest form to the front of `out`.
+/// Reads an extension for a side, the one that **reads** it, and writes its one shortest form to the front of `out`.
 ///
 /// ```
 /// use yuthpram::{tidy, Side};
