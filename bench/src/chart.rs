@@ -7,7 +7,7 @@ use crate::{
 };
 
 const WIDTH: f64 = 860.0;
-const LEFT: f64 = 150.0;
+const LEFT: f64 = 165.0;
 const RIGHT: f64 = 50.0;
 const TOP: f64 = 90.0;
 const BAR: f64 = 12.0;

@@ -87,7 +87,8 @@ fn met(samples: &[Sample], all: &[Measured]) -> String {
         format!("- {sample}, {op}, {who}: {ratio:.2} for {aim:.2}\n")
     });
     let missed: Vec<_> = missed.collect();
-    format!("Aims met: {} of {}. Missed:\n\n{}", judged.len() - missed.len(), judged.len(), missed.concat())
+    let list = if missed.is_empty() { String::new() } else { format!(" Missed:\n\n{}", missed.concat()) };
+    format!("Aims met: {} of {}.{}\n", judged.len() - missed.len(), judged.len(), list.trim_end())
 }
 
 /// Bytes per nanosecond, of reading the long samples.
