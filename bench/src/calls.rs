@@ -1,10 +1,6 @@
 //! The operations, of each library.
 
-use crate::{
-    Side, image,
-    samples::{Sample, ordered},
-    transport_parameters::TransportParameters,
-};
+use crate::{Side, image, samples::Sample, transport_parameters::TransportParameters};
 use std::{
     ffi::{CStr, c_char},
     hint::black_box,
@@ -13,10 +9,16 @@ use std::{
 #[derive(Clone, Copy, PartialEq, Eq, Debug)]
 pub enum Op {
     Read,
+    /// reading, each time with the parameters in another order
+    ReadOrders,
     Write,
     /// writing in an order of the record's own
     Ordered,
+    /// the same, each time in another order
+    WriteOrders,
     Tidy,
+    /// no row: writing in an order as Yuthpram's in many is called, with the record made from its image each time
+    Singly,
 }
 
 #[derive(Clone, Copy, PartialEq, Eq, Debug)]
@@ -27,6 +29,8 @@ pub enum Who {
     Rattle,
     /// Yuthpram through its C interface, with the record's image
     Interface,
+    /// Yuthpram through its Rust crate, with the crate's record
+    Rust,
     /// ngtcp2's C
     Ngtcp2,
 }
@@ -35,15 +39,23 @@ impl Op {
     pub fn name(self) -> &'static str {
         match self {
             Op::Read => "read",
+            Op::ReadOrders => "read, 512 orders",
             Op::Write => "write",
             Op::Ordered => "write in an order",
+            Op::WriteOrders => "write in 512 orders",
             Op::Tidy => "tidy",
+            Op::Singly => "write singly",
         }
+    }
+
+    /// Whether it takes another order each time.
+    pub fn many(self) -> bool {
+        matches!(self, Op::ReadOrders | Op::WriteOrders)
     }
 
     /// Whether it takes a record, and not bytes.
     fn writes(self) -> bool {
-        matches!(self, Op::Write | Op::Ordered)
+        !matches!(self, Op::Read | Op::ReadOrders | Op::Tidy)
     }
 }
 
@@ -53,13 +65,16 @@ impl Who {
             Who::Quinn => "quinn",
             Who::Rattle => "Yuthpram",
             Who::Interface => "through C",
+            Who::Rust => "through Rust",
             Who::Ngtcp2 => "ngtcp2",
         }
     }
 }
 
-pub const OPS: [Op; 4] = [Op::Read, Op::Write, Op::Ordered, Op::Tidy];
-pub const ALL: [Who; 4] = [Who::Quinn, Who::Rattle, Who::Interface, Who::Ngtcp2];
+pub const OPS: [Op; 6] = [Op::Read, Op::ReadOrders, Op::Write, Op::Ordered, Op::WriteOrders, Op::Tidy];
+pub const ALL: [Who; 5] = [Who::Quinn, Who::Rattle, Who::Interface, Who::Rust, Who::Ngtcp2];
+/// Those that store the same bytes.
+pub const ALIKE: [Who; 4] = [Who::Quinn, Who::Rattle, Who::Interface, Who::Rust];
 
 unsafe extern "C" {
     fn timing_read(src: *const u8, src_len: usize, times: usize) -> u8;
@@ -91,84 +106,88 @@ fn quinn_write(p: &TransportParameters, out: &mut Output) -> usize {
     ROOM - rest.len()
 }
 
-/// The image of what is written.
-fn record(op: Op, s: &Sample) -> [u8; image::RECORD] {
-    if op == Op::Ordered { ordered(s.record) } else { s.record }
+#[inline(never)]
+fn crate_read(src: &[u8]) -> yuthpram::TransportParameters {
+    yuthpram::TransportParameters::read(yuthpram::Side::Client, src).expect("the crate reads it")
+}
+
+#[inline(never)]
+fn crate_write(p: &yuthpram::TransportParameters, out: &mut Output) -> usize {
+    p.write(out).expect("the crate writes it")
+}
+
+/// So many of the things, from the front again when they are at an end; their number is a power of two.
+fn turns<T>(all: &[T], times: usize) -> impl Iterator<Item = &T> {
+    (0..times).map(|i| black_box(&all[i & (all.len() - 1)]))
 }
 
 fn quinn(op: Op, s: &Sample, times: usize, out: &mut Output) -> usize {
-    let src = &s.bytes[..];
     let mut count = 0;
     match op {
-        Op::Read => {
-            for _ in 0..times {
-                black_box(&quinn_read(black_box(src)));
-            }
-        }
-        Op::Write | Op::Ordered => {
-            let p = image::to_record(&record(op, s));
-            for _ in 0..times {
-                count = quinn_write(black_box(&p), black_box(out));
-            }
-        }
-        Op::Tidy => {
-            for _ in 0..times {
-                count = quinn_write(&quinn_read(black_box(src)), black_box(out));
-            }
-        }
+        Op::Read | Op::ReadOrders => turns(s.read_by(op), times).for_each(|src| _ = black_box(&quinn_read(src))),
+        Op::Tidy => turns(s.read_by(op), times).for_each(|src| count = quinn_write(&quinn_read(src), black_box(out))),
+        _ => turns(s.quinn.of(op), times).for_each(|p| count = quinn_write(p, black_box(out))),
+    }
+    count
+}
+
+fn rust(op: Op, s: &Sample, times: usize, out: &mut Output) -> usize {
+    let tidy = |src: &[u8], out: &mut Output| yuthpram::tidy(yuthpram::Side::Client, src, out).expect("the crate tidies it");
+    let mut count = 0;
+    match op {
+        Op::Read | Op::ReadOrders => turns(s.read_by(op), times).for_each(|src| _ = black_box(&crate_read(src))),
+        Op::Tidy => turns(s.read_by(op), times).for_each(|src| count = tidy(src, black_box(out))),
+        _ => turns(s.rust.of(op), times).for_each(|p| count = crate_write(p, black_box(out))),
     }
     count
 }
 
 // Safety of the calls below: each pointer and length is that of a slice that outlives the call, and the output overlaps no input.
 
+/// One input is read or written in a loop of Rattle's. With another each time the loop is here, and a record to write is made from its image
+/// in each call: see `correction`.
 fn rattle(op: Op, s: &Sample, times: usize, out: &mut Output) -> usize {
-    let (x, n, y) = (s.bytes.as_ptr(), s.bytes.len(), out.as_mut_ptr());
+    let y = out.as_mut_ptr();
     let mut count = 0;
-    unsafe {
-        match op {
-            Op::Read => {
-                black_box(timing_read(x, n, times));
-            }
-            Op::Write | Op::Ordered => count = timing_write(record(op, s).as_ptr(), image::RECORD, times, y, ROOM),
-            Op::Tidy => {
-                for _ in 0..times {
-                    count = timing_tidy(black_box(x), n, black_box(y), ROOM);
-                }
-            }
+    let read = |src: &[u8], times| unsafe { timing_read(src.as_ptr(), src.len(), times) };
+    let write = |image: &[u8], times, y| unsafe { timing_write(image.as_ptr(), image.len(), times, y, ROOM) };
+    match op {
+        Op::Read => _ = black_box(read(&s.bytes, times)),
+        Op::ReadOrders => turns(s.read_by(op), times).for_each(|src| _ = black_box(read(src, 1))),
+        Op::Write | Op::Ordered => count = write(&s.images.of(op)[0], times, y),
+        Op::WriteOrders | Op::Singly => turns(s.images.of(op), times).for_each(|image| count = write(image, 1, black_box(y))),
+        Op::Tidy => {
+            let tidy = |src: &Vec<u8>| unsafe { timing_tidy(src.as_ptr(), src.len(), black_box(y), ROOM) };
+            turns(s.read_by(op), times).for_each(|src| count = tidy(src));
         }
     }
     count
 }
 
 fn interface(op: Op, s: &Sample, times: usize, out: &mut Output) -> usize {
-    let (x, n, y) = (s.bytes.as_ptr(), s.bytes.len(), out.as_mut_ptr());
-    let mut image = record(op, s);
-    let (r, mut count, mut code) = (image.as_mut_ptr(), 0, 0);
-    for _ in 0..times {
-        code |= unsafe {
-            match op {
-                Op::Read => yuthpram_read(0, black_box(x), n, black_box(r), image::RECORD),
-                Op::Write | Op::Ordered => yuthpram_write(black_box(r), image::RECORD, black_box(y), ROOM, &mut count),
-                Op::Tidy => yuthpram_tidy(0, black_box(x), n, black_box(y), ROOM, &mut count),
-            }
-        };
+    let (y, mut image) = (out.as_mut_ptr(), s.images.of(Op::Write)[0]);
+    let (mut count, mut code) = (0, 0);
+    let mut read = |src: &[u8]| unsafe { yuthpram_read(0, src.as_ptr(), src.len(), black_box(image.as_mut_ptr()), image::RECORD) };
+    let mut tidy = |src: &[u8]| unsafe { yuthpram_tidy(0, src.as_ptr(), src.len(), black_box(y), ROOM, &mut count) };
+    match op {
+        Op::Read | Op::ReadOrders => turns(s.read_by(op), times).for_each(|src| code |= read(src)),
+        Op::Tidy => turns(s.read_by(op), times).for_each(|src| code |= tidy(src)),
+        _ => turns(s.images.of(op), times)
+            .for_each(|record| code |= unsafe { yuthpram_write(record.as_ptr(), image::RECORD, black_box(y), ROOM, &mut count) }),
     }
     assert_eq!(code, 0);
     count
 }
 
 fn ngtcp2(op: Op, s: &Sample, times: usize, out: &mut Output) -> usize {
-    let (x, n, y) = (s.bytes.as_ptr(), s.bytes.len(), out.as_mut_ptr());
-    let mut code = if op.writes() { unsafe { peer_read(x, n) } } else { 0 };
+    let y = out.as_mut_ptr();
+    let read = |src: &[u8]| unsafe { peer_read(src.as_ptr(), src.len()) };
+    let mut code = if op.writes() { read(&s.bytes) } else { 0 };
     let mut count = 0;
-    for _ in 0..times {
-        unsafe {
-            match op {
-                Op::Read => code |= peer_read(black_box(x), n),
-                _ => count = peer_write(black_box(y), ROOM),
-            }
-        }
+    if op.writes() {
+        (0..times).for_each(|_| count = unsafe { peer_write(black_box(y), ROOM) });
+    } else {
+        turns(s.read_by(op), times).for_each(|src| code |= read(src));
     }
     assert_eq!(code, 0, "ngtcp2 reads it");
     count as usize
@@ -180,17 +199,22 @@ pub fn call(who: Who, op: Op, s: &Sample, times: usize, out: &mut Output) -> usi
         Who::Quinn => quinn(op, s, times, out),
         Who::Rattle => rattle(op, s, times, out),
         Who::Interface => interface(op, s, times, out),
+        Who::Rust => rust(op, s, times, out),
         Who::Ngtcp2 => ngtcp2(op, s, times, out),
     }
 }
 
-/// Whether the library reads the sample; quinn has read it when it was made.
-pub fn accepts(who: Who, s: &Sample) -> bool {
-    let (x, n, mut image) = (s.bytes.as_ptr(), s.bytes.len(), s.record);
+/// Whether the library reads these bytes, and Yuthpram as quinn does.
+pub fn accepts(who: Who, bytes: &[u8], s: &Sample) -> bool {
+    let (x, n, mut image) = (bytes.as_ptr(), bytes.len(), s.images.of(Op::Write)[0]);
     match who {
-        Who::Quinn => true,
+        Who::Quinn => quinn_read(bytes) == quinn_read(&s.bytes),
         Who::Rattle => unsafe { timing_read(x, n, 1) == 0 },
-        Who::Interface => unsafe { yuthpram_read(0, x, n, image.as_mut_ptr(), image::RECORD) == 0 },
+        Who::Interface => {
+            let code = unsafe { yuthpram_read(0, x, n, image.as_mut_ptr(), image::RECORD) };
+            code == 0 && image == image::of_record(&quinn_read(bytes))
+        }
+        Who::Rust => crate_read(bytes) == crate_read(&s.bytes),
         Who::Ngtcp2 => unsafe { peer_read(x, n) == 0 },
     }
 }
@@ -200,7 +224,14 @@ pub fn ngtcp2_version() -> &'static str {
     unsafe { CStr::from_ptr(peer_version()) }.to_str().expect("a version")
 }
 
-/// ngtcp2 has neither orders nor tidying; of 64 KiB of unknown parameters there is nothing to write.
+/// ngtcp2 has neither orders nor tidying; of 64 KiB of unknown parameters there is nothing to write or to shuffle.
 pub fn exists(who: Who, op: Op, s: &Sample) -> bool {
-    !(who == Who::Ngtcp2 && matches!(op, Op::Ordered | Op::Tidy) || op.writes() && s.bytes.len() > ROOM)
+    let none = who == Who::Ngtcp2 && matches!(op, Op::Ordered | Op::WriteOrders | Op::Tidy);
+    !none && (s.bytes.len() <= ROOM || matches!(op, Op::Read | Op::Tidy))
+}
+
+/// What has to be taken off an operation's time, and added to it. Yuthpram's writing in many orders begins with the image each time: what the
+/// many orders cost over one is the difference of two times that do so, and it is added to that of writing in one.
+pub fn correction(who: Who, op: Op) -> Option<(Op, Op)> {
+    (who == Who::Rattle && op == Op::WriteOrders).then_some((Op::Singly, Op::Ordered))
 }

@@ -7,7 +7,7 @@ use crate::{
 };
 
 const WIDTH: f64 = 860.0;
-const LEFT: f64 = 150.0;
+const LEFT: f64 = 165.0;
 const RIGHT: f64 = 50.0;
 const TOP: f64 = 90.0;
 const BAR: f64 = 12.0;
@@ -31,7 +31,8 @@ fn color(who: Who) -> &'static str {
     match who {
         Who::Quinn => "#222222",
         Who::Rattle => "#1f5fbf",
-        Who::Interface => "#8ab4ec",
+        Who::Interface => "#6a9ee0",
+        Who::Rust => "#b3cff2",
         Who::Ngtcp2 => "#c9822b",
     }
 }
@@ -86,8 +87,8 @@ impl Chart {
 
     fn legend(&mut self) {
         self.text(16.0, 26.0, "font-size=\"16\" font-weight=\"bold\"", "Time of a call, quinn = 1: shorter is faster");
-        let names = ["Yuthpram", "Yuthpram through C", "ngtcp2"];
-        for ((who, name), x) in ALL[1..].iter().zip(names).zip([16.0, 130.0, 300.0]) {
+        let names = ["Yuthpram", "Yuthpram through C", "Yuthpram through Rust", "ngtcp2"];
+        for ((who, name), x) in ALL[1..].iter().zip(names).zip([16.0, 130.0, 300.0, 490.0]) {
             self.bars += &rect(x, 42.0, 22.0, *who);
             self.text(x + 28.0, 51.0, "", name);
         }
@@ -124,9 +125,15 @@ fn ratios(all: &[Measured], sample: usize, op: Op) -> Vec<(Who, f64)> {
     ALL[1..].iter().filter_map(|who| Some((*who, at(all, sample, op, *who)? / quinn))).collect()
 }
 
+/// Where there are rows of one order and of many, the chart has the many.
+fn charted(op: Op, s: &Sample) -> bool {
+    let many = exists(Who::Quinn, Op::ReadOrders, s);
+    exists(Who::Quinn, op, s) && !(many && matches!(op, Op::Read | Op::Ordered))
+}
+
 pub fn svg(samples: &[Sample], all: &[Measured]) -> String {
     let operations = |(i, s): (usize, &Sample)| {
-        let there = OPS.into_iter().filter(|op| exists(Who::Quinn, *op, s));
+        let there = OPS.into_iter().filter(|op| charted(*op, s));
         there.map(|op| (op, ratios(all, i, op))).collect::<Vec<_>>()
     };
     let every: Vec<_> = samples.iter().enumerate().map(operations).collect();

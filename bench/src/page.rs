@@ -1,9 +1,10 @@
 //! The tables of what was measured, and the page that holds them.
 
 use crate::{
-    calls::{ALL, OPS, Op, Who, exists, ngtcp2_version},
+    aims::aim,
+    calls::{ALL, OPS, Op, ROOM, Who, exists, ngtcp2_version},
     chart,
-    measure::{Measured, at, counts, stack, times},
+    measure::{self, Measured, at, callgrind, counts, stack},
     samples::Sample,
 };
 use std::fs;
@@ -40,36 +41,84 @@ fn markdown(words: usize, rows: &[Vec<String>]) -> String {
     row(&rows[0]) + &line(rule.collect()) + &body
 }
 
+/// What a library is to reach of quinn's number, if that is said of the operation on the sample at this place.
+pub type Aim = fn(Who, Op, usize) -> Option<f64>;
+
+/// A ratio, and the aim in brackets.
+fn against(ratio: f64, aim: Option<f64>) -> String {
+    aim.map_or(format!("{ratio:.2}"), |aim| format!("{ratio:.2} ({aim:.2})"))
+}
+
 /// The row of an operation on a sample: quinn's number, then each other library's and its ratio to quinn's.
-fn row(s: &Sample, sample: usize, op: Op, all: &[Measured]) -> Vec<String> {
+fn row(s: &Sample, sample: usize, op: Op, all: &[Measured], aim: Aim) -> Vec<String> {
     let quinn = at(all, sample, op, Who::Quinn).expect("quinn has every operation");
     let mut cells = vec![s.name.to_string(), op.name().to_string(), number(quinn)];
     for who in &ALL[1..] {
         let value = at(all, sample, op, *who);
         cells.push(value.map_or(NONE.into(), number));
-        cells.push(value.map_or(NONE.into(), |x| format!("{:.2}", x / quinn)));
+        cells.push(value.map_or(NONE.into(), |x| against(x / quinn, aim(*who, op, sample))));
     }
     cells
 }
 
 /// A row for each operation on each sample.
-pub fn table(samples: &[Sample], all: &[Measured]) -> String {
+pub fn table(samples: &[Sample], all: &[Measured], aim: Aim) -> String {
     let mut head = vec!["sample".to_string(), "operation".into(), Who::Quinn.name().into()];
     head.extend(ALL[1..].iter().flat_map(|who| [who.name().to_string(), "ratio".into()]));
     let mut rows = vec![head];
     for (i, s) in samples.iter().enumerate() {
         let present = OPS.into_iter().filter(|op| exists(Who::Quinn, *op, s));
-        rows.extend(present.map(|op| row(s, i, op, all)));
+        rows.extend(present.map(|op| row(s, i, op, all, aim)));
     }
     markdown(2, &rows)
 }
 
+/// How many aims are met, and which are not.
+fn met(samples: &[Sample], all: &[Measured]) -> String {
+    let judged = all.iter().filter_map(|m| {
+        let ratio = m.value / at(all, m.sample, m.op, Who::Quinn)?;
+        Some((m, ratio, aim(m.who, m.op, m.sample)?))
+    });
+    let judged: Vec<_> = judged.collect();
+    // as the table shows it
+    let missed = judged.iter().filter(|(_, ratio, aim)| (ratio * 100.0).round() / 100.0 > *aim);
+    let missed = missed.map(|(m, ratio, aim)| {
+        let (sample, op, who) = (samples[m.sample].name, m.op.name(), m.who.name());
+        format!("- {sample}, {op}, {who}: {ratio:.2} for {aim:.2}\n")
+    });
+    let missed: Vec<_> = missed.collect();
+    let list = if missed.is_empty() { String::new() } else { format!(" Missed:\n\n{}", missed.concat()) };
+    format!("Aims met: {} of {}.{}\n", judged.len() - missed.len(), judged.len(), list.trim_end())
+}
+
+/// Bytes per nanosecond, of reading the long samples.
+fn speeds(samples: &[Sample], all: &[Measured]) -> String {
+    let mut rows = vec![vec!["sample".to_string()]];
+    rows[0].extend(ALL.map(|who| who.name().to_string()));
+    for (i, s) in samples.iter().enumerate().filter(|(_, s)| s.bytes.len() > ROOM) {
+        let speed = |who: Who| number(s.bytes.len() as f64 / at(all, i, Op::Read, who).expect("all read it"));
+        rows.push([s.name.to_string()].into_iter().chain(ALL.map(speed)).collect());
+    }
+    markdown(1, &rows)
+}
+
+/// What was timed.
+pub fn times(samples: &[Sample], timed: &[Measured]) -> String {
+    format!(
+        "Nanoseconds per call, and the ratio to quinn's, with its aim in brackets:\n\n{}\n{}\n\
+         Gigabytes per second, of reading 64 KiB of unknown parameters:\n\n{}",
+        table(samples, timed, aim),
+        met(samples, timed),
+        speeds(samples, timed)
+    )
+}
+
 /// The most that an operation uses on any sample.
 fn stack_table(samples: &[Sample]) -> String {
-    let columns = [Who::Rattle, Who::Interface];
+    let columns = [Who::Rattle, Who::Interface, Who::Rust];
     let mut rows = vec![vec!["operation".to_string()]];
     rows[0].extend(columns.map(|who| who.name().to_string()));
-    for op in OPS {
+    for op in OPS.into_iter().filter(|op| !op.many()) {
         let most = |who: Who| {
             let there = samples.iter().filter(|s| exists(who, op, s));
             there.map(|s| stack(who, op, s)).max().expect("a sample") as f64
@@ -87,18 +136,24 @@ fn processor() -> String {
     model.trim_start_matches([' ', '\t', ':']).to_string()
 }
 
+/// The table of instructions, if callgrind is there.
+fn instructions(samples: &[Sample]) -> String {
+    if !callgrind() {
+        return String::new();
+    }
+    format!("Instructions per call, and the ratio to quinn's:\n\n{}\n", table(samples, &counts(samples), |_, _, _| None))
+}
+
 /// What stands on the page between the two marks.
 fn measured(samples: &[Sample], timed: &[Measured]) -> String {
     format!(
-        "On {}; {}; ngtcp2 {}.\n\n\
-         Nanoseconds per call, and the ratio to quinn's:\n\n{}\n\
-         Instructions per call, and the ratio to quinn's:\n\n{}\n\
+        "On {}; {}; ngtcp2 {}.\n\n{}\n{}\
          Bytes of stack, the most over the samples:\n\n{}",
         processor(),
         env!("COMPILER"),
         ngtcp2_version(),
-        table(samples, timed),
-        table(samples, &counts(samples)),
+        times(samples, timed),
+        instructions(samples),
         stack_table(samples)
     )
 }
@@ -113,7 +168,7 @@ fn replaced(text: &str, new: &str) -> Option<String> {
 /// Measures, and writes the page and its chart.
 pub fn write(page: &str, svg: &str, samples: &[Sample]) -> std::io::Result<()> {
     let text = fs::read_to_string(page)?;
-    let timed = times(samples);
+    let timed = measure::times(samples);
     let text = replaced(&text, &measured(samples, &timed)).expect("the page has both marks");
     fs::write(page, text)?;
     fs::write(svg, chart::svg(samples, &timed))

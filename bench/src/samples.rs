@@ -1,13 +1,57 @@
 //! The extensions and records that are timed, all as a client reads them.
 
-use crate::{calls::quinn_read, image};
+use crate::{
+    calls::{Op, quinn_read},
+    crate_record, image,
+    transport_parameters::TransportParameters,
+};
+
+/// How many orders are drawn.
+pub const ORDERS: usize = 512;
+
+pub type Image = [u8; image::RECORD];
+
+/// A record in each library's form, in catalogue order, in one order, and in each of the drawn ones.
+pub struct Records<T> {
+    plain: [T; 1],
+    ordered: [T; 1],
+    orders: Vec<T>,
+}
+
+impl<T> Records<T> {
+    /// What an operation writes, by turns.
+    pub fn of(&self, op: Op) -> &[T] {
+        match op {
+            Op::Ordered | Op::Singly => &self.ordered,
+            Op::WriteOrders => &self.orders,
+            _ => &self.plain,
+        }
+    }
+
+    fn map<U>(&self, to: impl Fn(&T) -> U) -> Records<U> {
+        let one = |x: &[T; 1]| [to(&x[0])];
+        Records { plain: one(&self.plain), ordered: one(&self.ordered), orders: self.orders.iter().map(&to).collect() }
+    }
+}
 
 pub struct Sample {
     pub name: &'static str,
     /// what is read and tidied
     pub bytes: Vec<u8>,
-    /// the image of what is written
-    pub record: [u8; image::RECORD],
+    /// the same, and then with its parameters in each of the drawn orders
+    plain: [Vec<u8>; 1],
+    shuffled: Vec<Vec<u8>>,
+    /// what is written: as an image, as quinn's record, as the Rust crate's
+    pub images: Records<Image>,
+    pub quinn: Records<TransportParameters>,
+    pub rust: Records<yuthpram::TransportParameters>,
+}
+
+impl Sample {
+    /// What an operation reads, by turns.
+    pub fn read_by(&self, op: Op) -> &[Vec<u8>] {
+        if op == Op::ReadOrders { &self.shuffled } else { &self.plain }
+    }
 }
 
 /// A number in the form of 1, 2, 4 or 8 bytes.
@@ -103,8 +147,16 @@ fn unknown() -> Vec<u8> {
     all
 }
 
+/// The IDs and four unknown parameters, 64 KiB.
+fn few() -> Vec<u8> {
+    let left = (1 << 16) - ids().len();
+    let head = [&[27][..], &number(2, left as u64 / 4 - 3)].concat();
+    let one = [head, vec![7; left / 4 - 3]].concat();
+    [ids(), one.repeat(4)].concat()
+}
+
 /// The record of `full`, made larger where only reading sets a limit, and with the reserved parameter: it is written as 314 bytes.
-fn full_record(read: [u8; image::RECORD]) -> [u8; image::RECORD] {
+fn full_record(read: Image) -> Image {
     let mut p = image::to_record(&read);
     p.ack_delay_exponent.0 = 1 << 61;
     p.max_ack_delay.0 = 1 << 61;
@@ -117,21 +169,93 @@ fn full_record(read: [u8; image::RECORD]) -> [u8; image::RECORD] {
     record
 }
 
-pub fn samples() -> Vec<Sample> {
-    let all: [(_, fn() -> Vec<u8>); 4] = [("small", small), ("typical", typical), ("full", full), ("64 KiB unknown", unknown)];
-    all.map(|(name, make)| {
-        let bytes = make();
-        let read = image::of_record(&quinn_read(&bytes));
-        Sample { name, bytes, record: if name == "full" { full_record(read) } else { read } }
-    })
-    .into()
+/// The identifiers of the places, the reserved one aside.
+const IDS: [u64; 21] = [
+    0x01, 0x03, 0x04, 0x05, 0x06, 0x07, 0x08, 0x09, 0x0a, 0x0b, 0x0e, RESERVED, 0x02, 0x0c, 0x20, 0x0d, 0x00, 0x0f, 0x10, 0x2ab2,
+    0xff04de1b,
+];
+
+type Order = [u8; IDS.len()];
+
+/// The orders: each a shuffle, from a fixed seed (xorshift).
+fn orders() -> Vec<Order> {
+    let mut seed: u64 = 88_172_645_463_325_252;
+    let mut below = |n: usize| {
+        seed ^= seed << 13;
+        seed ^= seed >> 7;
+        seed ^= seed << 17;
+        (seed % n as u64) as usize
+    };
+    let mut order: Order = std::array::from_fn(|i| i as u8);
+    let mut next = || {
+        (1..order.len()).rev().for_each(|i| order.swap(i, below(i + 1)));
+        order
+    };
+    (0..ORDERS).map(|_| next()).collect()
 }
 
-/// The record with an order, of every 8th place.
-pub fn ordered(mut record: [u8; image::RECORD]) -> [u8; image::RECORD] {
+/// The order of the rows with one: every 8th place.
+fn one_order() -> Order {
+    std::array::from_fn(|i| (i * 8 % IDS.len()) as u8)
+}
+
+fn ordered(mut record: Image, order: &Order) -> Image {
     record[281] = 1;
-    for (i, place) in record[282..].iter_mut().enumerate() {
-        *place = (i * 8 % 21) as u8;
-    }
+    record[282..].copy_from_slice(order);
     record
+}
+
+/// A number at the front of `x`, which is moved behind it.
+fn take(x: &mut &[u8]) -> u64 {
+    let width = 1 << (x[0] >> 6);
+    let (head, rest) = x.split_at(width);
+    *x = rest;
+    head[1..].iter().fold(u64::from(head[0] & 0x3f), |number, byte| number << 8 | u64::from(*byte))
+}
+
+/// The parameters of an extension, each with its place.
+fn parameters(bytes: &[u8]) -> Vec<(u8, &[u8])> {
+    let mut rest = bytes;
+    let mut all = Vec::new();
+    while !rest.is_empty() {
+        let start = rest;
+        let id = take(&mut rest);
+        let len = take(&mut rest) as usize;
+        rest = &rest[len..];
+        let place = IDS.iter().position(|known| *known == id).expect("a known identifier");
+        all.push((place as u8, &start[..start.len() - rest.len()]));
+    }
+    all
+}
+
+/// The extension with its parameters in an order.
+fn shuffled(bytes: &[u8], order: &Order) -> Vec<u8> {
+    let mut all = parameters(bytes);
+    all.sort_by_key(|(place, _)| order.iter().position(|p| p == place));
+    all.iter().flat_map(|(_, whole)| whole.iter().copied()).collect()
+}
+
+const MAKE: [(&str, fn() -> Vec<u8>); 5] =
+    [("small", small), ("typical", typical), ("full", full), ("64 KiB unknown", unknown), ("64 KiB, few and long", few)];
+
+/// The sample at a place.
+pub fn sample(at: usize) -> Sample {
+    let (name, make) = MAKE[at];
+    let bytes = make();
+    let read = image::of_record(&quinn_read(&bytes));
+    let record = if name == "full" { full_record(read) } else { read };
+    let drawn = orders();
+    let images = Records {
+        plain: [record],
+        ordered: [ordered(record, &one_order())],
+        orders: drawn.iter().map(|order| ordered(record, order)).collect(),
+    };
+    let small = bytes.len() <= crate::calls::ROOM;
+    let shuffled = drawn.iter().filter(|_| small).map(|order| shuffled(&bytes, order)).collect();
+    let (quinn, rust) = (images.map(|i| image::to_record(i)), images.map(|i| crate_record::of(&bytes, i)));
+    Sample { name, plain: [bytes.clone()], bytes, shuffled, images, quinn, rust }
+}
+
+pub fn samples() -> Vec<Sample> {
+    (0..MAKE.len()).map(sample).collect()
 }

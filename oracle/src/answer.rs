@@ -1,6 +1,6 @@
 //! A case is one call, all in bytes and numbers; an answer is what came back. Both programs take the same cases.
 
-/// The operations. Those from `Check` on have no counterpart in the Rust, and are held to what its operations give together.
+/// The operations. Those from `Check` on have no counterpart in the Rust: all but the last are held to what its operations give together.
 #[derive(Clone, Copy, PartialEq, Eq, Debug)]
 #[repr(u8)]
 pub enum Op {
@@ -21,7 +21,7 @@ pub enum Op {
     Tidy,
     /// the same, but the library tidies twice
     TidyTwice,
-    /// takes an order, which is a permutation or not by construction
+    /// takes an order; the one operation that is never put to quinn
     CheckOrder,
 }
 

@@ -1,6 +1,6 @@
 //! Generated inputs: extensions, records, settings. All follow from a seed.
 
-use crate::{VarInt, image, shared::ConnectionId, transport_parameters::*};
+use crate::{VarInt, coding::BufExt, image, shared::ConnectionId, transport_parameters::*};
 use std::net::{SocketAddrV4, SocketAddrV6};
 
 pub const MAX: u64 = (1 << 62) - 1;
@@ -85,8 +85,8 @@ impl Dice {
         self.below(n) == 0
     }
 
-    pub fn of<T: Copy>(&mut self, all: &[T]) -> T {
-        all[self.below(all.len())]
+    pub fn of<T: Clone>(&mut self, all: &[T]) -> T {
+        all[self.below(all.len())].clone()
     }
 
     pub fn bytes<const N: usize>(&mut self) -> [u8; N] {
@@ -230,6 +230,61 @@ pub fn extension(d: &mut Dice, mask: u32) -> Vec<u8> {
     for id in ids {
         let v = value(d, id);
         put_parameter(d, &mut out, id, &v);
+    }
+    out
+}
+
+/// The extensions that real clients sent.
+pub fn real() -> Vec<Vec<u8>> {
+    let list = include_str!("../../tests/real/clients.txt");
+    list.lines().filter_map(|l| l.strip_prefix("extension ")).map(unhex).collect()
+}
+
+pub fn unhex(text: &str) -> Vec<u8> {
+    (0..text.len()).step_by(2).map(|i| u8::from_str_radix(&text[i..i + 2], 16).unwrap()).collect()
+}
+
+/// The identifiers and values of an extension's parameters.
+fn parameters(mut x: &[u8]) -> Vec<(u64, Vec<u8>)> {
+    let mut all = Vec::new();
+    while !x.is_empty() {
+        let (id, len) = (x.get_var().unwrap(), x.get_var().unwrap());
+        let (value, rest) = x.split_at(len as usize);
+        all.push((id, value.to_vec()));
+        x = rest;
+    }
+    all
+}
+
+/// The parameters of one extension, now and then with some of another, shuffled, in any forms; one or the other dropped, doubled, given
+/// another value, or joined by one more.
+pub fn mixed(d: &mut Dice, all: &[Vec<u8>]) -> Vec<u8> {
+    let mut kept = parameters(&all[d.below(all.len())]);
+    let others = parameters(&all[d.below(all.len())]);
+    match d.below(6) {
+        0 => kept.truncate(d.below(kept.len() + 1)),
+        1 => kept.push(d.of(&kept)),
+        2 => {
+            let at = d.below(kept.len());
+            kept[at].1 = value(d, kept[at].0);
+        }
+        3 => {
+            let id = if d.one_in(2) { d.of(&KNOWN) } else { unknown(d) };
+            kept.push((id, value(d, id)));
+        }
+        4 => {
+            let at = d.below(others.len());
+            kept.truncate(d.below(kept.len() + 1));
+            kept.extend_from_slice(&others[at..]);
+        }
+        _ => {}
+    }
+    for i in (1..kept.len()).rev() {
+        kept.swap(i, d.below(i + 1));
+    }
+    let mut out = Vec::new();
+    for (id, v) in &kept {
+        put_parameter(d, &mut out, *id, v);
     }
     out
 }

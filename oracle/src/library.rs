@@ -31,99 +31,149 @@ unsafe extern "C" {
     fn yuthpram_issue_cids_limit(record: *const u8, record_len: usize, limit: *mut u64) -> u8;
 }
 
-/// What stands in every byte and number that a call may store to, before it.
-const FILL: u8 = 0xa7;
+/// How many bytes the shortest form of a number has.
+unsafe fn number_size(value: u64, count: *mut usize) -> u8 {
+    unsafe { *count = yuthpram_number_size(value) as usize };
+    0
+}
+
+/// The bytes before and behind the longest output, which are lent to no call.
+const MARGIN: usize = 64;
+const ALL: usize = MARGIN + MOST + MARGIN;
+
+/// What stands in every byte, and in every number, before a call: bytes that differ from their neighbours.
+const FILL: [u8; ALL] = fill();
 const UNTOUCHED: u64 = 0xa7a7_a7a7_a7a7_a7a7;
 
-/// The answer, and the whole output as the call left it.
+const fn fill() -> [u8; ALL] {
+    let mut bytes = [0xa7; ALL];
+    let mut i = 0;
+    while i < ALL {
+        bytes[i] ^= (i % 251) as u8;
+        i += 1;
+    }
+    bytes
+}
+
+/// Where a value and a count stand among the numbers: others are before, between and behind them.
+const VALUE: usize = 1;
+const COUNT: usize = 3;
+
+/// The answer, and every byte around as the call left it.
 pub struct Called {
     pub code: u8,
     pub number: u64,
-    pub output: [u8; MOST],
+    bytes: [u8; ALL],
 }
 
 /// What a refusal looks like.
 pub fn refused(code: u8) -> Called {
-    Called { code, number: 0, output: [FILL; MOST] }
+    Called { code, number: 0, bytes: FILL }
 }
 
 impl Called {
-    /// Whether the call gave this answer and left the rest of its output alone.
-    pub fn is(&self, a: &Answer, room: usize) -> bool {
+    /// Whether the call gave this answer and left every other byte alone: of the output, before it and behind it.
+    pub fn is(&self, a: &Answer) -> bool {
+        let end = MARGIN + a.len;
         self.code == a.code
             && self.number == a.number
-            && &self.output[..a.len] == a.due()
-            && self.output[a.len..room].iter().all(|b| *b == FILL)
+            && self.bytes[..MARGIN] == FILL[..MARGIN]
+            && &self.bytes[MARGIN..end] == a.due()
+            && self.bytes[end..] == FILL[end..]
+    }
+
+    /// The longest output.
+    pub fn output(&self) -> &[u8] {
+        &self.bytes[MARGIN..MARGIN + MOST]
+    }
+
+    /// Flips a bit of the byte at a place that counts from the output's start.
+    pub fn flip(&mut self, at: isize) {
+        self.bytes[MARGIN.wrapping_add_signed(at)] ^= 1;
+    }
+
+    /// The places, counted from the output's start, of the bytes that have changed but lie outside of it.
+    pub fn outside(&self, room: usize) -> Vec<isize> {
+        let inside = MARGIN..MARGIN + room;
+        let changed = (0..ALL).filter(|at| !inside.contains(at) && self.bytes[*at] != FILL[*at]);
+        changed.map(|at| at as isize - MARGIN as isize).collect()
     }
 }
 
+/// The number of an answer; one that no answer has if a number changed that shouldn't.
+fn number(op: Op, code: u8, numbers: [u64; 5]) -> u64 {
+    let untouched = |at: usize| numbers[at] == UNTOUCHED;
+    if !(untouched(0) && untouched(2) && untouched(4)) || code != 0 && !(untouched(VALUE) && untouched(COUNT)) {
+        return u64::MAX;
+    }
+    match op {
+        _ if code != 0 => 0,
+        Op::Issue => numbers[VALUE],
+        Op::Default | Op::Read | Op::New | Op::Resume | Op::Check | Op::CheckOrder => 0,
+        _ => numbers[COUNT],
+    }
+}
+
+/// Tidies what tidying gave.
+fn tidy_twice(c: &Case) -> Called {
+    let once = call(&Case { op: Op::Tidy, room: MOST, ..*c });
+    if once.code != 0 || once.number as usize > MOST {
+        return once;
+    }
+    let x = &once.output()[..once.number as usize];
+    call(&Case { op: Op::Tidy, x, ..*c })
+}
+
 pub fn call(c: &Case) -> Called {
-    let mut output = [FILL; MOST];
-    let mut value = UNTOUCHED;
-    let mut count = UNTOUCHED as usize;
+    if c.op == Op::TidyTwice {
+        return tidy_twice(c);
+    }
+    let (mut bytes, mut numbers) = (FILL, [UNTOUCHED; 5]);
+    let settings: Vec<u64> = if c.op == Op::New { eights(c.x) } else { Vec::new() };
     let side = c.number as u8;
-    let (x, n) = (c.x.as_ptr(), c.x.len());
-    let (out, room) = (output.as_mut_ptr(), c.room);
+    let (x, n, y, z, w) = (c.x.as_ptr(), c.x.len(), c.y, c.z, c.w);
+    let (room, given) = (c.room, numbers.as_mut_ptr());
     assert!(room <= MOST);
-    // Safety: each pointer and length is that of a slice that outlives the call, and the output overlaps no input.
+    // Safety: each pointer and length is that of a part of a slice that outlives the call, and the output overlaps no input.
     let code = unsafe {
+        let (out, value, count) = (bytes.as_mut_ptr().add(MARGIN), given.add(VALUE), given.add(COUNT).cast());
         match c.op {
-            Op::NumberSize => {
-                value = yuthpram_number_size(c.number) as u64;
-                0
-            }
-            Op::NumberRead => yuthpram_number_read(x, n, &mut value, &mut count),
-            Op::NumberWrite => yuthpram_number_write(c.number, out, room, &mut count),
-            Op::CidRead => yuthpram_cid_read(x, n, out, room, &mut count),
-            Op::CidWrite => yuthpram_cid_write(x, n, out, room, &mut count),
+            Op::NumberSize => number_size(c.number, count),
+            Op::NumberRead => yuthpram_number_read(x, n, value, count),
+            Op::NumberWrite => yuthpram_number_write(c.number, out, room, count),
+            Op::CidRead => yuthpram_cid_read(x, n, out, room, count),
+            Op::CidWrite => yuthpram_cid_write(x, n, out, room, count),
             Op::Default => yuthpram_default(out, room),
             Op::Read => yuthpram_read(side, x, n, out, room),
-            Op::Write => yuthpram_write(x, n, out, room, &mut count),
-            Op::New => {
-                let settings: Vec<u64> = c.x.chunks(8).map(|b| u64::from_be_bytes(b.try_into().unwrap())).collect();
-                yuthpram_new(
-                    settings.as_ptr(),
-                    settings.len(),
-                    c.y.as_ptr(),
-                    c.y.len(),
-                    c.number,
-                    c.z.as_ptr(),
-                    c.z.len(),
-                    c.w.as_ptr(),
-                    c.w.len(),
-                    out,
-                    room,
-                )
-            }
-            Op::Resume => yuthpram_validate_resumption_from(x, n, c.y.as_ptr(), c.y.len()),
-            Op::Issue => yuthpram_issue_cids_limit(x, n, &mut value),
+            Op::Write => yuthpram_write(x, n, out, room, count),
+            Op::New => yuthpram_new(
+                settings.as_ptr(),
+                settings.len(),
+                y.as_ptr(),
+                y.len(),
+                c.number,
+                z.as_ptr(),
+                z.len(),
+                w.as_ptr(),
+                w.len(),
+                out,
+                room,
+            ),
+            Op::Resume => yuthpram_validate_resumption_from(x, n, y.as_ptr(), y.len()),
+            Op::Issue => yuthpram_issue_cids_limit(x, n, value),
             Op::Check => yuthpram_check(x, n, side),
-            Op::Tidy => yuthpram_tidy(side, x, n, out, room, &mut count),
-            Op::TidyTwice => {
-                let mut once = [0; MOST];
-                match yuthpram_tidy(side, x, n, once.as_mut_ptr(), MOST, &mut count) {
-                    0 => {
-                        let len = count;
-                        count = UNTOUCHED as usize;
-                        yuthpram_tidy(side, once.as_ptr(), len, out, room, &mut count)
-                    }
-                    refused => refused,
-                }
-            }
+            Op::Tidy | Op::TidyTwice => yuthpram_tidy(side, x, n, out, room, count),
             Op::CheckOrder => yuthpram_check_order(x, n),
         }
     };
-    // A refused call leaves value and count as they were; the value of number_read goes where bytes go.
-    let number = match c.op {
-        _ if code != 0 && value == UNTOUCHED && count as u64 == UNTOUCHED => 0,
-        _ if code != 0 => u64::MAX,
-        Op::NumberSize | Op::Issue => value,
-        Op::NumberWrite | Op::CidRead | Op::CidWrite | Op::Write | Op::Tidy | Op::TidyTwice => count as u64,
-        Op::NumberRead => {
-            output[..8].copy_from_slice(&value.to_be_bytes());
-            count as u64
-        }
-        Op::Default | Op::Read | Op::New | Op::Resume | Op::Check | Op::CheckOrder => 0,
-    };
-    Called { code, number, output }
+    // The value of number_read goes where bytes go.
+    if c.op == Op::NumberRead && code == 0 {
+        bytes[MARGIN..MARGIN + 8].copy_from_slice(&numbers[VALUE].to_be_bytes());
+    }
+    Called { code, number: number(c.op, code, numbers), bytes }
+}
+
+/// Numbers of eight bytes each.
+fn eights(b: &[u8]) -> Vec<u64> {
+    b.chunks(8).map(|b| u64::from_be_bytes(b.try_into().unwrap())).collect()
 }

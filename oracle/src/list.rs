@@ -19,9 +19,9 @@ use std::io::{Read, Write, stdin, stdout};
 use crate::{
     answer::{Answer, Case, MOST, Op},
     compare::SEED,
-    image,
+    due, image,
     inputs::{self, Dice, EDGES, KNOWN, MAX},
-    library, rust,
+    library,
     suite::Suite,
 };
 
@@ -29,11 +29,11 @@ impl Suite<'_> {
     /// Each edge: its size, written with just enough room and with too little, read in the shortest and the longest form and cut.
     pub fn number_edges(&mut self) {
         for x in EDGES.into_iter().chain([1 << 62, u64::MAX]) {
-            let due = rust::answer(&Case::new(Op::NumberWrite, x, &[], MOST)).len;
+            let due = due::answer(&Case::new(Op::NumberWrite, x, &[], MOST)).len;
             self.case(Op::NumberWrite, x, &[], due);
             self.case(Op::NumberWrite, x, &[], due.saturating_sub(1));
+            self.case(Op::NumberSize, x, &[], 0);
             if x <= MAX {
-                self.case(Op::NumberSize, x, &[], 0);
                 for form in [0, 3] {
                     let mut bytes = Vec::new();
                     inputs::put_number(&mut bytes, x, form);
@@ -152,7 +152,7 @@ impl Suite<'_> {
 }
 
 fn entry(c: &Case) -> Vec<u8> {
-    let a = rust::answer(c);
+    let a = due::answer(c);
     let parts = [c.x, c.y, c.z, c.w, a.due()];
     let mut out = vec![c.op as u8, a.code];
     let mut end = 0;
@@ -170,9 +170,10 @@ fn entry(c: &Case) -> Vec<u8> {
 
 pub fn record() {
     // every `step`th case of each part
-    let parts: [(usize, fn(&mut Suite)); 20] = [
+    let parts: [(usize, fn(&mut Suite)); 22] = [
         (1, |s| s.default()),
         (1, |s| s.shown()),
+        (1, |s| s.real(61, 40)),
         (1, |s| s.number_edges()),
         (4, |s| s.numbers_short(1)),
         (1, |s| s.cid_edges()),
@@ -187,6 +188,7 @@ pub fn record() {
         (1, |s| s.records(60)),
         (61, |s| s.record_edges()),
         (6, |s| s.orders(5)),
+        (47, |s| s.order_tests(200)),
         (1, |s| s.building(50)),
         (1, |s| s.building_refused(64)),
         (2, |s| s.resumption(112)),
@@ -209,11 +211,11 @@ pub fn record() {
     eprintln!("{entries} cases, {bytes} bytes");
 }
 
-/// Puts every case of a recorded list to quinn and to the library again: both must give what was recorded.
+/// Takes every case of a recorded list again: the answer due and the library's must both be what was recorded.
 pub fn replay() {
     let mut list = Vec::new();
     stdin().read_to_end(&mut list).unwrap();
-    let (mut cases, mut quinn, mut library) = (0, 0, 0);
+    let (mut cases, mut due, mut library) = (0, 0, 0);
     let mut at = 0;
     while at < list.len() {
         let head = &list[at..at + 32];
@@ -232,14 +234,14 @@ pub fn replay() {
             declined: head[15],
         };
         let recorded = Answer { code: head[1], ..Answer::stored(eight(24), part(4)) };
-        let now = rust::answer(&c);
+        let now = due::answer(&c);
         cases += 1;
-        quinn += (now.code != recorded.code || now.number != recorded.number || now.due() != recorded.due()) as u64;
-        library += !library::call(&c).is(&recorded, c.room) as u64;
+        due += (now.code != recorded.code || now.number != recorded.number || now.due() != recorded.due()) as u64;
+        library += !library::call(&c).is(&recorded) as u64;
         at += 32 + ends[5];
     }
-    println!("{cases} recorded cases: quinn differs in {quinn}, the library in {library}");
-    if quinn + library > 0 {
+    println!("{cases} recorded cases: quinn (or document 01) differs in {due}, the library in {library}");
+    if due + library > 0 {
         std::process::exit(1);
     }
 }

@@ -4,6 +4,7 @@
 
 mod answer;
 mod compare;
+mod due;
 mod image;
 mod inputs;
 mod library;
@@ -15,6 +16,7 @@ include!("quinn.rs");
 
 fn main() {
     let words: Vec<String> = std::env::args().skip(1).collect();
+    rust::quiet_panics();
     match words.first().map(String::as_str) {
         Some("compare") => compare::compare(false),
         Some("plant") => compare::compare(true),
