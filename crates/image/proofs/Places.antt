@@ -2,7 +2,7 @@
 --     sets-append    bytes stored, and more behind them
 --     stored-then    the same of two stores
 --     one-more       a turn of the loop that stores bytes
---     within         room for n bytes
+--     reach, inside, within   room in 303 bytes
 --     bytes-part     n bytes, copied over n others
 --     number-eight, number-two    a number by its bytes
 --     flags-more     a turn of the loop that tests the flags
@@ -15,7 +15,7 @@ use native.Mathlib.Numerals.{add-one}
 use native.Mathlib.Omega.{arith}
 use lib.ListN.{length, getD, take, drop, set, length-drop, drop-of-length-le}
 use lib.Seq.{sets, sets-eq, take-suc, drop-cons, length-take-le}
-use lib.Dec.{leb, ltb}
+use lib.Dec.{T, leb, ltb, lit≤, lit<}
 use lib.Bits.{bitOr, bitAnd, or-lt, or-add-and, and-le-l, and-le-r}
 use borrow.Author.Tests.{ltb-true, le-leb, lt-leb, leb-true, leb-false, eqb-true}
 use Rattle.refusal.proofs.Laws.{all-at}
@@ -39,9 +39,15 @@ one-more l v out at i h e =
     let n : length (take i v) ≡ i = length-take-le i v (omega arith) in
     rw (add-one, take-suc v i 0 h, sets-append l at (take i v) (getD v i 0 ∷ []), n, e)
 
--- room for n bytes at a place within 303, in a buffer whose length stayed
-pub within : (a : ℕ) {n m k l : ℕ} → n ≡ m → k ≡ l → 303 ≤ l → a + m ≤ 303 → a + n ≤ k
-within a e f h i = omega arith
+-- ROOM, of 303 bytes at least: up to a place, at a place, and for n bytes at a place of a buffer whose length stayed
+pub reach : {a n : ℕ} → T (leb a 303) → 303 ≤ n → a ≤ n
+reach {a} {n} t h = let k : a ≤ 303 = lit≤ t in omega arith
+
+pub inside : {a n : ℕ} → T (ltb a 303) → 303 ≤ n → a < n
+inside {a} {n} t h = let k : a < 303 = lit< t in omega arith
+
+pub within : (a : ℕ) {n m k l : ℕ} → n ≡ m → k ≡ l → 303 ≤ l → T (leb (a + m) 303) → a + n ≤ k
+within a {n} {m} {k} {l} e f h t = let i : a + m ≤ 303 = lit≤ t in omega arith
 
 -- n bytes of s, copied over n others
 pub bytes-part : (n at : ℕ) (s z b : List ℕ) → at + n ≤ length s → length z ≡ n → b ≡ sets z 0 (take (at + n - at) (drop at s)) → b ≡ part at n s

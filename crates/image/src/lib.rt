@@ -473,13 +473,6 @@ pub fn image_to(r: TransportParameters, out: &mut [u8]) -> Counted
     let numbers = r.numbers;
     let size = r.max_datagram_frame_size;
     let delay = r.min_ack_delay;
-    let original = r.original_dst_cid;
-    let initial = r.initial_src_cid;
-    let retry = r.retry_src_cid;
-    let token = r.stateless_reset_token;
-    let address = r.preferred_address;
-    let reserved = r.grease_transport_parameter;
-    let order = r.write_order;
     put_front(
         &numbers,
         r.disable_active_migration,
@@ -488,9 +481,15 @@ pub fn image_to(r: TransportParameters, out: &mut [u8]) -> Counted
         delay,
         out,
     );
-    put_ids(original, initial, retry, token, out);
-    put_address(address, out);
-    put_rest(reserved, order, out);
+    put_ids(
+        r.original_dst_cid,
+        r.initial_src_cid,
+        r.retry_src_cid,
+        r.stateless_reset_token,
+        out,
+    );
+    put_address(r.preferred_address, out);
+    put_rest(r.grease_transport_parameter, r.write_order, out);
     Counted::Count(RECORD_SIZE)
 }
 

@@ -1,6 +1,6 @@
 -- `image::address_at` meets its contract. Assumes nothing.
+use Rattle.image.proofs.Places.{reach, inside}
 use Rattle.image.specs.Image.{addressAt}
-use borrow.Author.Needs.{needs}
 use Rattle.image.proofs.address_at.Statement.{statement}
 use Rattle.image.proofs.address_at.Tie as tie
 
@@ -23,13 +23,13 @@ pub address-at-spec : {M : Type 1} → statement M
 address-at-spec =
     tie.close
     (tie.spec
-    (λ c κs. search needs)
-    (λ c κs. search needs)
-    (λ c κs. search needs)
-    (λ c κs. search needs)
-    (λ c κs. search needs)
-    (λ c κs. search needs)
-    (λ c κs. search needs)
-    (λ c κs. search needs)
-    (λ c κs. search needs)
+    (λ c κs. reach tt (c .before .pre))
+    (λ c κs. reach tt (c .before .before .pre))
+    (λ c κs. reach tt (c .before .before .before .pre))
+    (λ c κs. reach tt (c .before .before .before .before .pre))
+    (λ c κs. inside tt (c .before .before .before .before .before .pre))
+    (λ c κs. inside tt (c .before .before .before .before .before .before .pre))
+    (λ c κs. reach tt (c .before .before .before .before .before .before .before .pre))
+    (λ c κs. inside tt (c .before .before .before .before .before .before .before .before .pre))
+    (λ c κs. reach tt (c .before .before .before .before .before .before .before .before .before .pre))
     returns)

@@ -26,8 +26,8 @@ returns c = no-room _ _ 303 (image-size (c .before .before .args .r) (sized (c .
 
 returns-2 : tie.Need-returns-2
 returns-2 c =
-    let s = c .before .before .before .before .before .before .before .before .before .before .before .before .before .before .before .before .before .before .before .before .before .before .before .before .before .before .before in
-    room _ _ _ 303 (image-size (s .args .r) (sized s)) (c .before .before .before .before .before .before .before .before .before .before .before .before .before .before .before .before .before .before .before .before .before .before .before .before .before .if1 .left)
+    let s = c .before .before .before .before .before .before .before .before .before .before .before .before .before .before .before .before .before .before .before .before in
+    room _ _ _ 303 (image-size (s .args .r) (sized s)) (c .before .before .before .before .before .before .before .before .before .before .before .before .before .before .before .before .before .before .if1 .left)
     (record-stored (s .args .r) (sized s) _ _ _ _ _ (c .before .before .before .before .before .before .before .before .before .before .before .before .before .before .put-front .ensures) (c .before .before .before .before .before .before .before .before .before .before .put-ids .ensures) (c .before .before .before .before .before .before .put-address .ensures) (c .before .before .put-rest .ensures))
 
 pub image-to-spec : {M : Type 1} → statement M

@@ -1,5 +1,5 @@
 -- `image::numbers_at` meets its contract. Assumes nothing.
-use borrow.Author.Needs.{needs}
+use Rattle.image.proofs.Places.{reach}
 use Rattle.image.proofs.numbers_at.Statement.{statement}
 use Rattle.image.proofs.numbers_at.Tie as tie
 
@@ -23,15 +23,15 @@ pub numbers-at-spec : {M : Type 1} → statement M
 numbers-at-spec =
     tie.close
     (tie.spec
-    (λ c κs. search needs)
-    (λ c κs. search needs)
-    (λ c κs. search needs)
-    (λ c κs. search needs)
-    (λ c κs. search needs)
-    (λ c κs. search needs)
-    (λ c κs. search needs)
-    (λ c κs. search needs)
-    (λ c κs. search needs)
-    (λ c κs. search needs)
-    (λ c κs. search needs)
+    (λ c κs. reach tt (c .before .pre))
+    (λ c κs. reach tt (c .before .before .pre))
+    (λ c κs. reach tt (c .before .before .before .pre))
+    (λ c κs. reach tt (c .before .before .before .before .pre))
+    (λ c κs. reach tt (c .before .before .before .before .before .pre))
+    (λ c κs. reach tt (c .before .before .before .before .before .before .pre))
+    (λ c κs. reach tt (c .before .before .before .before .before .before .before .pre))
+    (λ c κs. reach tt (c .before .before .before .before .before .before .before .before .pre))
+    (λ c κs. reach tt (c .before .before .before .before .before .before .before .before .before .pre))
+    (λ c κs. reach tt (c .before .before .before .before .before .before .before .before .before .before .pre))
+    (λ c κs. reach tt (c .before .before .before .before .before .before .before .before .before .before .before .pre))
     returns)

@@ -23,21 +23,21 @@ token-long : (c : tie.Start) → length (c .args .a .«stateless_reset_token» .
 token-long c = search needs
 
 put-family-requires : tie.Need-put-family-requires
-put-family-requires c κs = within 195 (v4-long (c .before .before .before .before .before .before .before .before)) (length-set (c .before .before .before .before .before .before .before .before .args .out .now) 191 _) (c .before .before .before .before .before .before .before .before .pre) (omega arith)
+put-family-requires c κs = within 195 (v4-long (c .before .before .before .before .before .before .before .before)) (length-set (c .before .before .before .before .before .before .before .before .args .out .now) 191 _) (c .before .before .before .before .before .before .before .before .pre) tt
 
 put-family-requires-2 : tie.Need-put-family-requires-2
-put-family-requires-2 c κs = within 202 (v6-long (c .before .before .before .before .before .before .before .before .before .before .before .before .before)) (c .before .before .before .before .put-family .kept .1 .1 .1 .1 .0 ∙ length-set (c .before .before .before .before .before .before .before .before .before .before .before .before .before .args .out .now) 191 _) (c .before .before .before .before .before .before .before .before .before .before .before .before .before .pre) (omega arith)
+put-family-requires-2 c κs = within 202 (v6-long (c .before .before .before .before .before .before .before .before .before .before .before .before .before)) (c .before .before .before .before .put-family .kept .1 .1 .1 .1 .0 ∙ length-set (c .before .before .before .before .before .before .before .before .before .before .before .before .before .args .out .now) 191 _) (c .before .before .before .before .before .before .before .before .before .before .before .before .before .pre) tt
 
 put-behind-requires : tie.Need-put-behind-requires
 put-behind-requires c κs =
-    within 219 (id-long (c .before .before .before .before .before .before .before .before .before .before .before .before .before .before .before .before .before .before)) (c .before .before .before .before .put-family2 .kept .1 .1 .1 .1 .0 ∙ c .before .before .before .before .before .before .before .before .before .put-family .kept .1 .1 .1 .1 .0 ∙ length-set (c .before .before .before .before .before .before .before .before .before .before .before .before .before .before .before .before .before .before .args .out .now) 191 _) (c .before .before .before .before .before .before .before .before .before .before .before .before .before .before .before .before .before .before .pre) (omega arith)
+    within 219 (id-long (c .before .before .before .before .before .before .before .before .before .before .before .before .before .before .before .before .before .before)) (c .before .before .before .before .put-family2 .kept .1 .1 .1 .1 .0 ∙ c .before .before .before .before .before .before .before .before .before .put-family .kept .1 .1 .1 .1 .0 ∙ length-set (c .before .before .before .before .before .before .before .before .before .before .before .before .before .before .before .before .before .before .args .out .now) 191 _) (c .before .before .before .before .before .before .before .before .before .before .before .before .before .before .before .before .before .before .pre) tt
 
 slice-aggregate-put-bytes : tie.Need-slice-aggregate-put-bytes
 slice-aggregate-put-bytes c = sym (token-long (c .before .before .before .before .before .before .before .before .before .before .before .before .before .before .before .before .before .before .before .before .before .before))
 
 put-bytes-requires : tie.Need-put-bytes-requires
 put-bytes-requires c κs =
-    within 239 (token-long (c .before .before .before .before .before .before .before .before .before .before .before .before .before .before .before .before .before .before .before .before .before .before .before)) (c .before .before .before .before .put-behind .kept .1 .1 .1 .0 ∙ c .before .before .before .before .before .before .before .before .before .put-family2 .kept .1 .1 .1 .1 .0 ∙ c .before .before .before .before .before .before .before .before .before .before .before .before .before .before .put-family .kept .1 .1 .1 .1 .0 ∙ length-set (c .before .before .before .before .before .before .before .before .before .before .before .before .before .before .before .before .before .before .before .before .before .before .before .args .out .now) 191 _) (c .before .before .before .before .before .before .before .before .before .before .before .before .before .before .before .before .before .before .before .before .before .before .before .pre) (omega arith)
+    within 239 (token-long (c .before .before .before .before .before .before .before .before .before .before .before .before .before .before .before .before .before .before .before .before .before .before .before)) (c .before .before .before .before .put-behind .kept .1 .1 .1 .0 ∙ c .before .before .before .before .before .before .before .before .before .put-family2 .kept .1 .1 .1 .1 .0 ∙ c .before .before .before .before .before .before .before .before .before .before .before .before .before .before .put-family .kept .1 .1 .1 .1 .0 ∙ length-set (c .before .before .before .before .before .before .before .before .before .before .before .before .before .before .before .before .before .before .before .before .before .before .before .args .out .now) 191 _) (c .before .before .before .before .before .before .before .before .before .before .before .before .before .before .before .before .before .before .before .before .before .before .before .pre) tt
 
 same-length : tie.Need-same-length
 same-length c =

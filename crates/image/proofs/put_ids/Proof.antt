@@ -20,7 +20,7 @@ slice-aggregate-put-behind c = sym (token-long (c .before .before .before .befor
 
 put-behind-requires : tie.Need-put-behind-requires
 put-behind-requires c κs =
-    within 175 (token-long (c .before .before .before .before .before .before .before .before .before .before .before .before .before .before .before .before .before)) (c .before .before .before .before .before .put-optional-cid3 .kept .1 .1 .0 ∙ c .before .before .before .before .before .before .before .before .before .put-optional-cid2 .kept .1 .1 .0 ∙ c .before .before .before .before .before .before .before .before .before .before .before .before .before .put-optional-cid .kept .1 .1 .0) (c .before .before .before .before .before .before .before .before .before .before .before .before .before .before .before .before .before .pre) (omega arith)
+    within 175 (token-long (c .before .before .before .before .before .before .before .before .before .before .before .before .before .before .before .before .before)) (c .before .before .before .before .before .put-optional-cid3 .kept .1 .1 .0 ∙ c .before .before .before .before .before .before .before .before .before .put-optional-cid2 .kept .1 .1 .0 ∙ c .before .before .before .before .before .before .before .before .before .before .before .before .before .put-optional-cid .kept .1 .1 .0) (c .before .before .before .before .before .before .before .before .before .before .before .before .before .before .before .before .before .pre) tt
 
 returns : tie.Need-returns
 unfolding idParts

@@ -13,10 +13,10 @@ long : (c : tie.Start) → (length (c .args .reserved .payload) ≡ 16) × (leng
 long c = (search needs, search needs)
 
 put-behind-requires-2 : tie.Need-put-behind-requires-2
-put-behind-requires-2 c κs = within 265 (long (c .before .before .before .before .before .before .before .before .before .before .before .before) .0) (c .before .before .before .before .put-behind .kept .1 .1 .1 .0) (c .before .before .before .before .before .before .before .before .before .before .before .before .pre) (omega arith)
+put-behind-requires-2 c κs = within 265 (long (c .before .before .before .before .before .before .before .before .before .before .before .before) .0) (c .before .before .before .before .put-behind .kept .1 .1 .1 .0) (c .before .before .before .before .before .before .before .before .before .before .before .before .pre) tt
 
 put-behind-requires-3 : tie.Need-put-behind-requires-3
-put-behind-requires-3 c κs = within 282 (long (c .before .before .before .before .before .before .before .before .before .before .before .before .before .before .before .before .before .before) .1) (c .before .before .before .before .before .put-behind2 .kept .1 .1 .1 .0 ∙ c .before .before .before .before .before .before .before .before .before .before .put-behind .kept .1 .1 .1 .0) (c .before .before .before .before .before .before .before .before .before .before .before .before .before .before .before .before .before .before .pre) (omega arith)
+put-behind-requires-3 c κs = within 282 (long (c .before .before .before .before .before .before .before .before .before .before .before .before .before .before .before .before .before .before) .1) (c .before .before .before .before .before .put-behind2 .kept .1 .1 .1 .0 ∙ c .before .before .before .before .before .before .before .before .before .before .put-behind .kept .1 .1 .1 .0) (c .before .before .before .before .before .before .before .before .before .before .before .before .before .before .before .before .before .before .pre) tt
 
 returns : tie.Need-returns
 unfolding restParts

@@ -1,18 +1,8 @@
 -- `image::record_at` meets its contract. Assumes nothing.
-use native.Mathlib.Omega.{arith}
+use Rattle.image.proofs.Places.{reach, inside}
 use Rattle.image.specs.Image.{recordAt}
-use borrow.Author.Needs.{needs}
 use Rattle.image.proofs.record_at.Statement.{statement}
 use Rattle.image.proofs.record_at.Tie as tie
-
-number-at-requires : tie.Need-number-at-requires
-number-at-requires c κs = omega (arith, c .before .before .before .before .before .before .before .before .before .before .before .before .before .before .before .pre)
-
-shared-slice-read-t20 : tie.Need-shared-slice-read-t20
-shared-slice-read-t20 c = omega (arith, c .before .before .before .before .before .before .before .before .before .before .before .before .before .before .before .before .before .pre)
-
-flag-at-requires-5 : tie.Need-flag-at-requires-5
-flag-at-requires-5 c κs = omega (arith, c .before .before .before .before .before .before .before .before .before .before .before .before .before .before .before .before .before .pre)
 
 returns : tie.Need-returns
 unfolding recordAt
@@ -40,21 +30,21 @@ pub record-at-spec : {M : Type 1} → statement M
 record-at-spec =
     tie.close
     (tie.spec
-    (λ c κs. search needs)
-    (λ c κs. search needs)
-    (λ c κs. search needs)
-    (λ c κs. search needs)
-    (λ c κs. search needs)
-    (λ c κs. search needs)
-    (λ c κs. search needs)
-    (λ c κs. search needs)
-    (λ c κs. search needs)
-    (λ c κs. search needs)
-    (λ c κs. search needs)
-    (λ c κs. search needs)
-    (λ c κs. search needs)
-    (λ c κs. search needs)
-    number-at-requires
-    shared-slice-read-t20
-    flag-at-requires-5
+    (λ c κs. reach tt (c .before .pre))
+    (λ c κs. reach tt (c .before .before .pre))
+    (λ c κs. reach tt (c .before .before .before .pre))
+    (λ c κs. reach tt (c .before .before .before .before .pre))
+    (λ c κs. reach tt (c .before .before .before .before .before .pre))
+    (λ c κs. reach tt (c .before .before .before .before .before .before .pre))
+    (λ c κs. reach tt (c .before .before .before .before .before .before .before .pre))
+    (λ c κs. reach tt (c .before .before .before .before .before .before .before .before .pre))
+    (λ c κs. inside tt (c .before .before .before .before .before .before .before .before .before .pre))
+    (λ c κs. reach tt (c .before .before .before .before .before .before .before .before .before .before .pre))
+    (λ c κs. inside tt (c .before .before .before .before .before .before .before .before .before .before .before .pre))
+    (λ c κs. reach tt (c .before .before .before .before .before .before .before .before .before .before .before .before .pre))
+    (λ c κs. inside tt (c .before .before .before .before .before .before .before .before .before .before .before .before .before .pre))
+    (λ c κs. inside tt (c .before .before .before .before .before .before .before .before .before .before .before .before .before .before .pre))
+    (λ c κs. reach tt (c .before .before .before .before .before .before .before .before .before .before .before .before .before .before .before .pre))
+    (λ c. inside tt (c .before .before .before .before .before .before .before .before .before .before .before .before .before .before .before .before .before .pre))
+    (λ c κs. inside tt (c .before .before .before .before .before .before .before .before .before .before .before .before .before .before .before .before .before .pre))
     returns)
