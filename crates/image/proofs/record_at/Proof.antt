@@ -7,7 +7,7 @@ use Rattle.image.proofs.record_at.Tie as tie
 returns : tie.Need-returns
 unfolding recordAt
 returns c =
-    rw (
+    simp (
       c .before .before .before .before .before .before .before .before .before .before .before .before .before .before .before .before .numbers-at .ensures,
       c .before .before .before .before .before .before .before .before .flag-at .ensures,
       c .before .before .before .before .before .before .before .optional-at .ensures,
