@@ -6,7 +6,7 @@ use mathlib.Core.Bool.{not}
 use lib.ListN.{length, getD, replicate}
 use lib.Dec.{eqb}
 use Rattle.refusal.specs.Outcome.{Outcome, accepted, refused, pick, andThen, store}
-use Rattle.varint.specs.Number.{readNumber, writeNumber}
+use Rattle.varint.specs.Number.{sizeNumber, readNumber, writeNumber}
 use Rattle.connection_id.specs.declared.ConnectionId.{ConnectionId}
 use Rattle.connection_id.specs.ConnectionId.{readCid, writeCid}
 use Rattle.record.specs.declared.TransportParameters.{TransportParameters}
@@ -56,6 +56,9 @@ counting k (accepted n) = accepted k
 counting k (refused e) = refused e
 
 -- NUMBERS
+unfoldable pub numberSize : ℕ → ℕ → ℕ × ℕ
+numberSize v n = (code (sizeNumber v), countIn (sizeNumber v) n)
+
 abbrev pub numberInto : Outcome (ℕ × ℕ) → ℕ → ℕ → ℕ × ℕ × ℕ
 numberInto (accepted a) v n = (0, a .0, a .1)
 numberInto (refused e) v n = (e, v, n)
