@@ -25,7 +25,7 @@ use Rattle.record.specs.declared.OptionalNumber.the-variants.{Absent, Present}
 use Rattle.record.specs.declared.OptionalConnectionId.{OptionalConnectionId}
 use Rattle.record.specs.Values.{Family, ofV4, ofV6}
 use Rattle.record.specs.Record.{isPresent, least, wellFormed, formedOptional, formedOptionalCid, formedToken, formedOptionalToken, formedFamily, formedAddress, formedReserved, formedOrder}
-use Rattle.image.specs.Image.{part, flagByte, flagAt, numberAt, eightBytes, numbersImage, numbersAt, optionalAt, cidImage, cidAt, optionalCidAt, addressAt, joined, frontParts, idParts, addressParts, restParts, parts, imageOf, recordAt, flagPlaces, flagsHold, zeroIfAbsent, isImage, recordFrom, cidFrom}
+use Rattle.image.specs.Image.{part, flagByte, eightBytes, numbersImage, numbersAt, optionalAt, cidImage, cidAt, optionalCidAt, addressAt, joined, frontParts, idParts, addressParts, restParts, parts, imageOf, recordAt, flagPlaces, flagsHold, zeroIfAbsent, isImage, recordFrom, cidFrom}
 use Rattle.image.proofs.Stores.{eight, sizes, Sized, parts-sizes, image-size}
 
 -- A PART, by its number: where it begins, and that it stands there
@@ -227,9 +227,10 @@ module _ (r : TransportParameters) (h : wellFormed r ≡ true) where
 
   zero-back : (zeroIfAbsent 90 (imageOf r) ≡ true) × (zeroIfAbsent 99 (imageOf r) ≡ true)
   unfolding zeroIfAbsent parts frontParts
-  zero-back =
-      (rw (byte 3 (omega arith), field 4 (omega arith), eight-back (least (r .«max_datagram_frame_size»)) (optional-formed .0)) (simp (flag-back, optional-zero)),
-      rw (byte 5 (omega arith), field 6 (omega arith), eight-back (least (r .«min_ack_delay»)) (optional-formed .1)) (simp (flag-back, optional-zero)))
+  zero-back = (
+    rw (byte 3 (omega arith), field 4 (omega arith), eight-back (least (r .«max_datagram_frame_size»)) (optional-formed .0)) (simp (flag-back, optional-zero)),
+    rw (byte 5 (omega arith), field 6 (omega arith), eight-back (least (r .«min_ack_delay»)) (optional-formed .1)) (simp (flag-back, optional-zero)),
+  )
 
   -- a well-formed record, from its image
   pub back : recordFrom (imageOf r) ≡ accepted r

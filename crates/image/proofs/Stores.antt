@@ -5,7 +5,6 @@
 use Prim.Native.Nat.{ℕ, _+_, _*_, _/_, _%_, _≤_, _<_}
 use mathlib.Core.Path.{_≡_, refl, ap, ap₂, sym, _∙_}
 use mathlib.Core.List.{List, [], _∷_, _++_, map, append-nil, append-assoc}
-use mathlib.Core.Bool.{Bool}
 use native.Mathlib.Nat.{div-one}
 use native.Mathlib.Numerals.{add-one}
 use native.Mathlib.Omega.{arith}
@@ -16,15 +15,9 @@ use Rattle.refusal.specs.Outcome.{accepted, refused, store}
 use Rattle.varint.specs.Number.{bytesOf}
 use Rattle.varint.proofs.Bytes.{length-bytesOf, stored}
 use Rattle.record.specs.declared.TransportParameters.{TransportParameters}
-use Rattle.record.specs.declared.OptionalNumber.{OptionalNumber}
-use Rattle.record.specs.declared.OptionalConnectionId.{OptionalConnectionId}
-use Rattle.record.specs.declared.OptionalResetToken.{OptionalResetToken}
-use Rattle.record.specs.declared.PreferredAddress.{PreferredAddress}
-use Rattle.record.specs.declared.ReservedTransportParameter.{ReservedTransportParameter}
-use Rattle.record.specs.declared.WriteOrder.{WriteOrder}
 use Rattle.record.specs.Values.{Family}
-use Rattle.record.specs.Record.{isPresent, least}
-use Rattle.image.specs.Image.{joined, flagByte, eightBytes, numbersImage, optionalCidParts, familyParts, frontParts, idParts, addressParts, restParts, parts, imageOf}
+use Rattle.record.specs.Record.{least}
+use Rattle.image.specs.Image.{joined, flagByte, eightBytes, numbersImage, familyParts, frontParts, idParts, addressParts, restParts, parts, imageOf}
 use Rattle.image.proofs.Places.{stored-then}
 
 -- PARTS, one after another: a byte; a part; a byte and what stands behind it; several parts; the last ones

@@ -137,7 +137,7 @@ recordAt s =
       «stateless_reset_token» = record { present = flagAt 174 s; token = tokenOf (part 175 16 s) };
       «preferred_address» = addressAt s;
       «grease_transport_parameter»
-      = record { present = flagAt 255 s; id = numberAt 256 8 s; payload = part 265 16 s; «payload_len» = getD s 264 0 };
+          = record { present = flagAt 255 s; id = numberAt 256 8 s; payload = part 265 16 s; «payload_len» = getD s 264 0 };
       «write_order» = record { present = flagAt 281 s; places = part 282 21 s };
     }
 

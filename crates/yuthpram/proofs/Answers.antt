@@ -25,7 +25,7 @@ use Rattle.connection_id.specs.Answer.{withCid, readOutcome, settled}
 use Rattle.building.specs.declared.Settings.{Settings}
 use Rattle.building.specs.Building.{settingsFit, build}
 use Rattle.image.specs.Image.{cidFrom}
-use Rattle.yuthpram.specs.Interface.{code, coded, counted, countIn, counting, given, numberInto, settingsFrom, buildFrom, idOr, newRecord}
+use Rattle.yuthpram.specs.Interface.{code, coded, counted, countCode, counting, given, numberInto, settingsFrom, buildFrom, idOr, newRecord}
 
 -- NUMBERS
 module _ (o o′ : Outcome (ℕ × ℕ)) (e : o ≡ o′) (v n : ℕ) where
@@ -37,7 +37,7 @@ module _ (o o′ : Outcome (ℕ × ℕ)) (e : o ≡ o′) (v n : ℕ) where
 
 -- ANSWERS AND BUFFERS: an outcome o beside a buffer is what the definition w says
 module _ (o : Outcome ℕ) (out : List ℕ) (w : Outcome ℕ × List ℕ) (e : (o, out) ≡ w) where
-  pub into-count : (c k n : ℕ) → (c, k) ≡ (code o, countIn o n) → (c, out, k) ≡ counted w n
+  pub into-count : (c k n : ℕ) → (c, k) ≡ countCode o n → (c, out, k) ≡ counted w n
   into-count c k n f = ap (λ (p : ℕ × ℕ). (p .0, out, p .1)) f ∙ ap (λ w. counted w n) e
 
   pub coded-done : (k : ℕ) → o ≡ accepted k → (0, out) ≡ coded w

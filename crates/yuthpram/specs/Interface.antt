@@ -41,6 +41,10 @@ abbrev pub countIn : Outcome ℕ → ℕ → ℕ
 countIn (accepted k) n = k
 countIn (refused e) n = n
 
+-- the code and the count
+abbrev pub countCode : Outcome ℕ → ℕ → ℕ × ℕ
+countCode o n = (code o, countIn o n)
+
 -- the code, the buffer and the count
 abbrev pub counted : Outcome ℕ × List ℕ → ℕ → ℕ × List ℕ × ℕ
 counted w n = (code (w .0), w .1, countIn (w .0) n)
@@ -57,7 +61,7 @@ counting k (refused e) = refused e
 
 -- NUMBERS
 unfoldable pub numberSize : ℕ → ℕ → ℕ × ℕ
-numberSize v n = (code (sizeNumber v), countIn (sizeNumber v) n)
+numberSize v n = countCode (sizeNumber v) n
 
 abbrev pub numberInto : Outcome (ℕ × ℕ) → ℕ → ℕ → ℕ × ℕ × ℕ
 numberInto (accepted a) v n = (0, a .0, a .1)

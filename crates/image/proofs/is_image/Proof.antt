@@ -1,5 +1,4 @@
 -- `image::is_image` meets its contract. Assumes nothing.
-use mathlib.Core.Path.{sym}
 use borrow.Author.Tests.{ne-eqb, eq-eqb}
 use Rattle.refusal.specs.Outcome.{all}
 use Rattle.words.proofs.Laws.{and-true}

@@ -1,8 +1,7 @@
 -- `image::put_front` meets its contract. Assumes nothing.
 use native.Mathlib.Omega.{arith}
-use mathlib.Core.Path.{_≡_, refl, _∙_}
-use lib.ListN.{length, length-set}
-use Rattle.image.proofs.Places.{within}
+use mathlib.Core.Path.{refl, _∙_}
+use lib.ListN.{length-set}
 use Rattle.image.proofs.Stores.{byte, put, behind, done, laid, eight, numbers-size}
 use Rattle.record.specs.Record.{least}
 use Rattle.image.specs.Image.{frontParts}

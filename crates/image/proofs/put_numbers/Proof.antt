@@ -5,7 +5,7 @@ use mathlib.Core.Path.{_≡_, refl, ap, _∙_}
 use lib.ListN.{length, take}
 use lib.Seq.{sets, take-all}
 use Rattle.image.specs.Image.{numbersImage}
-use Rattle.image.proofs.Stores.{numbers-more, eight}
+use Rattle.image.proofs.Stores.{numbers-more}
 use borrow.Author.Needs.{needs}
 use Rattle.image.proofs.put_numbers.Statement.{statement}
 use Rattle.image.proofs.put_numbers.Tie as tie
