@@ -10,7 +10,7 @@ use native.Mathlib.Nat.{add-zero, mod-eq-of-lt}
 use native.Mathlib.Omega.{arith}
 use lib.ListN.{length, getD, drop, List·getD-map}
 use lib.Seq.{take-at, take-all, drop-at, drop-drop, drop-append-add, getD-drop}
-use lib.Dec.{leb, ltb, eqb}
+use lib.Dec.{T, leb, ltb, eqb, lit<}
 use borrow.Author.Tests.{eqb-true, ltb-true, eq-eqb}
 use Rattle.refusal.specs.Outcome.{accepted, pick, all}
 use Rattle.refusal.proofs.Laws.{all-at}
@@ -141,67 +141,69 @@ module _ (r : TransportParameters) (h : wellFormed r ≡ true) where
   unfolding parts frontParts idParts addressParts restParts
   count = refl
 
-  from : (k : ℕ) → k < 34 → drop (before k sizes) (imageOf r) ≡ getD (parts r) k [] ++ joined (drop (suc k) (parts r))
+  from : (k : ℕ) → T (ltb k 34) → drop (before k sizes) (imageOf r) ≡ getD (parts r) k [] ++ joined (drop (suc k) (parts r))
   unfolding imageOf
-  from k l = ap (λ ns. drop (before k ns) (imageOf r)) (sym (parts-sizes r sized)) ∙ from-part (parts r) k (omega (arith, count))
+  from k t =
+      let l : k < 34 = lit< t in
+      ap (λ ns. drop (before k ns) (imageOf r)) (sym (parts-sizes r sized)) ∙ from-part (parts r) k (omega (arith, count))
 
-  field : (k : ℕ) → k < 34 → part (before k sizes) (getD sizes k 0) (imageOf r) ≡ getD (parts r) k []
-  field k l =
+  field : (k : ℕ) → T (ltb k 34) → part (before k sizes) (getD sizes k 0) (imageOf r) ≡ getD (parts r) k []
+  field k t =
       let n : length (getD (parts r) k []) ≡ getD sizes k 0 = sym (List·getD-map length (parts r) k []) ∙ ap (λ ns. getD ns k 0) (parts-sizes r sized) in
-      rw (from k l) (take-at (getD (parts r) k []) (joined (drop (suc k) (parts r))) (getD sizes k 0) n)
+      rw (from k t) (take-at (getD (parts r) k []) (joined (drop (suc k) (parts r))) (getD sizes k 0) n)
 
-  byte : (k : ℕ) → k < 34 → getD (imageOf r) (before k sizes) 0 ≡ getD (getD (parts r) k [] ++ joined (drop (suc k) (parts r))) 0 0
-  byte k l = ap (λ i. getD (imageOf r) i 0) (sym (add-zero (before k sizes))) ∙ sym (getD-drop (before k sizes) (imageOf r) 0 0) ∙ ap (λ t. getD t 0 0) (from k l)
+  byte : (k : ℕ) → T (ltb k 34) → getD (imageOf r) (before k sizes) 0 ≡ getD (getD (parts r) k [] ++ joined (drop (suc k) (parts r))) 0 0
+  byte k t = ap (λ i. getD (imageOf r) i 0) (sym (add-zero (before k sizes))) ∙ sym (getD-drop (before k sizes) (imageOf r) 0 0) ∙ ap (λ l. getD l 0 0) (from k t)
 
   numbers-whole : numbersAt 11 0 (imageOf r) ≡ r .numbers
   unfolding wellFormed parts frontParts
   numbers-whole =
       ap (λ n. numbersAt n 0 (imageOf r)) (sym (sized .numbers))
-      ∙ numbers-back (r .numbers) (imageOf r) 0 (joined (drop 1 (parts r))) (all-at _ h 1) (from 0 (omega arith))
+      ∙ numbers-back (r .numbers) (imageOf r) 0 (joined (drop 1 (parts r))) (all-at _ h 1) (from 0 tt)
 
   record-back : recordAt (imageOf r) ≡ r
   unfolding recordAt optionalAt optionalCidAt cidAt addressAt parts frontParts idParts addressParts restParts
   record-back =
       rw (
         numbers-whole,
-        byte 1 (omega arith),
-        byte 2 (omega arith),
-        byte 3 (omega arith),
-        field 4 (omega arith),
+        byte 1 tt,
+        byte 2 tt,
+        byte 3 tt,
+        field 4 tt,
         eight-back (least (r .«max_datagram_frame_size»)) (optional-formed .0),
-        byte 5 (omega arith),
-        field 6 (omega arith),
+        byte 5 tt,
+        field 6 tt,
         eight-back (least (r .«min_ack_delay»)) (optional-formed .1),
-        byte 7 (omega arith),
-        byte 8 (omega arith),
-        field 9 (omega arith),
-        byte 10 (omega arith),
-        byte 11 (omega arith),
-        field 12 (omega arith),
-        byte 13 (omega arith),
-        byte 14 (omega arith),
-        field 15 (omega arith),
-        byte 16 (omega arith),
-        field 17 (omega arith),
-        byte 18 (omega arith),
-        byte 19 (omega arith),
-        field 20 (omega arith),
-        field 21 (omega arith),
+        byte 7 tt,
+        byte 8 tt,
+        field 9 tt,
+        byte 10 tt,
+        byte 11 tt,
+        field 12 tt,
+        byte 13 tt,
+        byte 14 tt,
+        field 15 tt,
+        byte 16 tt,
+        field 17 tt,
+        byte 18 tt,
+        byte 19 tt,
+        field 20 tt,
+        field 21 tt,
         number-back 2 (r .«preferred_address» .«address_v4» .port) (v4-formed .1),
-        byte 22 (omega arith),
-        field 23 (omega arith),
-        field 24 (omega arith),
+        byte 22 tt,
+        field 23 tt,
+        field 24 tt,
         number-back 2 (r .«preferred_address» .«address_v6» .port) (v6-formed .1),
-        byte 25 (omega arith),
-        field 26 (omega arith),
-        field 27 (omega arith),
-        byte 28 (omega arith),
-        field 29 (omega arith),
+        byte 25 tt,
+        field 26 tt,
+        field 27 tt,
+        byte 28 tt,
+        field 29 tt,
         eight-back (r .«grease_transport_parameter» .id) (reserved-formed .1),
-        byte 30 (omega arith),
-        field 31 (omega arith),
-        byte 32 (omega arith),
-        field 33 (omega arith),
+        byte 30 tt,
+        field 31 tt,
+        byte 32 tt,
+        field 33 tt,
       )
       (simp (flag-back, optional-back))
 
@@ -209,27 +211,27 @@ module _ (r : TransportParameters) (h : wellFormed r ≡ true) where
   unfolding flagsHold flagPlaces parts frontParts idParts addressParts restParts
   flags-back =
       rw (
-        byte 1 (omega arith),
-        byte 2 (omega arith),
-        byte 3 (omega arith),
-        byte 5 (omega arith),
-        byte 7 (omega arith),
-        byte 10 (omega arith),
-        byte 13 (omega arith),
-        byte 16 (omega arith),
-        byte 18 (omega arith),
-        byte 19 (omega arith),
-        byte 22 (omega arith),
-        byte 28 (omega arith),
-        byte 32 (omega arith),
+        byte 1 tt,
+        byte 2 tt,
+        byte 3 tt,
+        byte 5 tt,
+        byte 7 tt,
+        byte 10 tt,
+        byte 13 tt,
+        byte 16 tt,
+        byte 18 tt,
+        byte 19 tt,
+        byte 22 tt,
+        byte 28 tt,
+        byte 32 tt,
       )
       (simp flag-small)
 
   zero-back : (zeroIfAbsent 90 (imageOf r) ≡ true) × (zeroIfAbsent 99 (imageOf r) ≡ true)
   unfolding zeroIfAbsent parts frontParts
   zero-back = (
-    rw (byte 3 (omega arith), field 4 (omega arith), eight-back (least (r .«max_datagram_frame_size»)) (optional-formed .0)) (simp (flag-back, optional-zero)),
-    rw (byte 5 (omega arith), field 6 (omega arith), eight-back (least (r .«min_ack_delay»)) (optional-formed .1)) (simp (flag-back, optional-zero)),
+    rw (byte 3 tt, field 4 tt, eight-back (least (r .«max_datagram_frame_size»)) (optional-formed .0)) (simp (flag-back, optional-zero)),
+    rw (byte 5 tt, field 6 tt, eight-back (least (r .«min_ack_delay»)) (optional-formed .1)) (simp (flag-back, optional-zero)),
   )
 
   -- a well-formed record, from its image
