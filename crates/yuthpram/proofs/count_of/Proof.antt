@@ -1,7 +1,4 @@
 -- `yuthpram::count_of` meets its contract. Assumes nothing.
-use mathlib.Core.Path.{ap}
-use Rattle.refusal.specs.Answer.{countOutcome}
-use Rattle.yuthpram.specs.Interface.{countCode}
 use borrow.Author.Needs.{needs}
 use Rattle.yuthpram.proofs.count_of.Statement.{statement}
 use Rattle.yuthpram.proofs.count_of.Tie as tie
