@@ -1,6 +1,7 @@
 -- `yuthpram::yuthpram_new` meets its contract. Assumes nothing.
+use mathlib.Core.Path.{sym, _∙_}
 use Rattle.yuthpram.specs.Interface.{recordNew, recordStore}
-use Rattle.yuthpram.proofs.Answers.{given-coded, not-coded, other-count, built-in, built-out}
+use Rattle.yuthpram.proofs.Answers.{given-coded, not-coded, other-count, built, answered-in, answered-out}
 use borrow.Author.Needs.{needs}
 use Rattle.yuthpram.proofs.yuthpram_new.Statement.{statement}
 use Rattle.yuthpram.proofs.yuthpram_new.Tie as tie
@@ -39,14 +40,14 @@ same-length c = search needs
 returns-2 : tie.Need-returns-2
 unfolding recordNew
 returns-2 c =
-    let e = built-in _ _ _ _ _ (c .before .before .before .before .before .before .before .before .before .before .if1 .left) _ _ (c .before .before .before .before .before .before .before .before .settings-from .ensures) (c .before .before .before .before .before .before .before .before .before .id-of .ensures) _ (c .before .before .before .before .before .before .before .new .ensures) (c .before .before .before .before .before .enum-told .given .1) in
-    given-coded _ recordStore _ _ _ e (c .before .before .store-record .ensures)
+    let b = built _ _ _ _ _ (c .before .before .before .before .before .before .before .before .before .before .if1 .left) _ _ (c .before .before .before .before .before .before .before .before .settings-from .ensures) (c .before .before .before .before .before .before .before .before .before .id-of .ensures) in
+    given-coded _ recordStore _ _ _ (sym b ∙ answered-in _ _ _ _ (c .before .before .before .before .before .before .before .new .ensures) (c .before .before .before .before .before .enum-told .given .1)) (c .before .before .store-record .ensures)
 
 returns-3 : tie.Need-returns-3
 unfolding recordNew
 returns-3 c =
-    let e = built-out _ _ _ _ _ (c .before .before .before .before .before .before .before .if1 .left) _ _ (c .before .before .before .before .before .settings-from .ensures) (c .before .before .before .before .before .before .id-of .ensures) _ (c .before .before .before .before .new .ensures) _ (c .before .before .answer .given .1) in
-    not-coded _ recordStore _ _ _ e (c .number2 .ensures)
+    let b = built _ _ _ _ _ (c .before .before .before .before .before .before .before .if1 .left) _ _ (c .before .before .before .before .before .settings-from .ensures) (c .before .before .before .before .before .before .id-of .ensures) in
+    not-coded _ recordStore _ _ _ (sym b ∙ answered-out _ _ _ _ (c .before .before .before .before .new .ensures) _ (c .before .before .answer .given .1)) (c .number2 .ensures)
 
 pub yuthpram-new-spec : {M : Type 1} → statement M
 yuthpram-new-spec =
