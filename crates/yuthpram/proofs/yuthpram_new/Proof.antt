@@ -6,36 +6,9 @@ use borrow.Author.Needs.{needs}
 use Rattle.yuthpram.proofs.yuthpram_new.Statement.{statement}
 use Rattle.yuthpram.proofs.yuthpram_new.Tie as tie
 
-number-requires : tie.Need-number-requires
-number-requires c κs = search needs
-
 returns : tie.Need-returns
 unfolding recordNew
 returns c = not-coded _ recordStore _ _ _ (other-count _ _ _ _ _ (c .before .if1 .taken)) (c .number .ensures)
-
-id-of-requires : tie.Need-id-of-requires
-id-of-requires c κs = search needs
-
-settings-from-requires : tie.Need-settings-from-requires
-settings-from-requires c κs = search needs
-
-new-requires : tie.Need-new-requires
-new-requires c κs = search needs
-
-enum-told : tie.Need-enum-told
-enum-told c = search needs
-
-store-record-requires : tie.Need-store-record-requires
-store-record-requires c κs = search needs
-
-enum-known-answer : tie.Need-enum-known-answer
-enum-known-answer c = search needs
-
-number-requires-2 : tie.Need-number-requires-2
-number-requires-2 c κs = search needs
-
-same-length : tie.Need-same-length
-same-length c = search needs
 
 returns-2 : tie.Need-returns-2
 unfolding recordNew
@@ -53,15 +26,15 @@ pub yuthpram-new-spec : {M : Type 1} → statement M
 yuthpram-new-spec =
     tie.close
     (tie.spec
-    number-requires
+    (λ c κs. search needs)
     returns
-    id-of-requires
-    settings-from-requires
-    new-requires
-    enum-told
-    store-record-requires
-    enum-known-answer
-    number-requires-2
-    same-length
+    (λ c κs. search needs)
+    (λ c κs. search needs)
+    (λ c κs. search needs)
+    (λ c. search needs)
+    (λ c κs. search needs)
+    (λ c. search needs)
+    (λ c κs. search needs)
+    (λ c. search needs)
     returns-2
     returns-3)
