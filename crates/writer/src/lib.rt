@@ -4,7 +4,7 @@ ghost use mathlib.Core.List.{[], _∷_, _++_};
 ghost use mathlib.Core.Bool.{true};
 ghost use Prim.Native.Nat.{ℕ, _+_, _<_, _≤_};
 ghost use lib.ListN.{length, take};
-ghost use Rattle.refusal.specs.Outcome.{front, store};
+ghost use Rattle.refusal.specs.Outcome.{pick, front, store};
 ghost use Rattle.refusal.specs.Answer.{countOutcome};
 ghost use Rattle.varint.specs.Number.{bytesOf};
 ghost use Rattle.connection_id.specs.ConnectionId.{cidBytes, formedCid};
@@ -14,8 +14,8 @@ ghost use Rattle.record.specs.Record.{isPresent, least, formedOptionalCid, form
 ghost use Rattle.order.specs.Order.{permutation, catalogueOrder};
 ghost use Rattle.wire.specs.Wire.{put, dueValue, dueNumber, numberAt};
 ghost use Rattle.wire.specs.Stored.{Wrote, each};
-ghost use Rattle.writer.specs.Writing.{parameterAt, concatOf, extension, write};
-ghost use Rattle.writer.specs.Laid.{laid, addressBytes, partAt, InOrder};
+ghost use Rattle.writer.specs.Writing.{parameterAt, concatOf, write};
+ghost use Rattle.writer.specs.Laid.{laid, addressBytes, partAt, InOrder, bytesIn, Ready};
 use catalogue::DEFAULTS;
 use catalogue::IDS;
 use catalogue::MAX_EXTENSION;
@@ -259,7 +259,7 @@ fn put_catalogue(r: TransportParameters, starts: &mut [usize; PLACES + 1], out: 
 
 // Copies the parameters of `parts` to `out` in an order; that of place p stands from `starts[p]` to `starts[p + 1]`.
 fn put_ordered(order: &[u8; PLACES], starts: &[usize; PLACES + 1], parts: &[u8], out: &mut [u8]) -> usize
-    requires { ⌜ InOrder (now order) (now starts) (now parts) (now out) ⌝ }
+    requires { ⌜ InOrder (now order) (now starts) (now parts) × (length (concatOf (partAt (now starts) (now parts)) (now order)) ≤ length (now out)) ⌝ }
     ensures { λ r. ⌜ Wrote (length (now (out .entry))) (concatOf (partAt (now (starts .entry)) (now (parts .entry))) (now (order .entry)))
         (now (out .entry)) r (now (out .exit)) ⌝ }
 {
@@ -275,62 +275,52 @@ fn put_ordered(order: &[u8; PLACES], starts: &[usize; PLACES + 1], parts: &[u8],
     at
 }
 
-// With an order, the parameters are written in catalogue order first.
-fn write_ordered(r: TransportParameters, order: &[u8; PLACES], out: &mut [u8]) -> Counted
-    requires { ⌜ (wellFormed r ≡ true) × (permutation (now order) ≡ true) ⌝ }
-    ensures { λ w. ⌜ (countOutcome w, now (out .exit)) ≡ store (extension r (now (order .entry))) (now (out .entry)) ⌝ }
+// Stores the `n` bytes of `parts`, in the order if one is present.
+fn put_laid(
+    n: usize,
+    present: bool,
+    order: &[u8; PLACES],
+    starts: &[usize; PLACES + 1],
+    parts: &[u8],
+    out: &mut [u8],
+) -> Counted
+    requires { ⌜ Ready n present (now order) (now starts) (now parts) ⌝ }
+    ensures { λ w. ⌜ (countOutcome w, now (out .exit))
+        ≡ store (bytesIn n present (now (order .entry)) (now (starts .entry)) (now (parts .entry))) (now (out .entry)) ⌝ }
 {
-    let mut starts = [0usize; PLACES + 1];
-    let mut parts = [0u8; MAX_EXTENSION];
-    let due = put_catalogue(r, &mut starts, &mut parts);
-    if out.len() < due {
-        return Counted::Refused(Refusal::BufferTooShort);
-    }
-    Counted::Count(put_ordered(order, &starts, &parts, out))
-}
-
-// In catalogue order they go straight to a buffer that has room for any.
-fn write_unordered(r: TransportParameters, out: &mut [u8]) -> Counted
-    requires { ⌜ wellFormed r ≡ true ⌝ }
-    ensures { λ w. ⌜ (countOutcome w, now (out .exit)) ≡ store (extension r catalogueOrder) (now (out .entry)) ⌝ }
-{
-    let mut starts = [0usize; PLACES + 1];
-    if MAX_EXTENSION <= out.len() {
-        return Counted::Count(put_catalogue(r, &mut starts, out));
-    }
-    let mut parts = [0u8; MAX_EXTENSION];
-    let n = put_catalogue(r, &mut starts, &mut parts);
     if out.len() < n {
         return Counted::Refused(Refusal::BufferTooShort);
     }
-    put_bytes(&parts[..n], out);
-    Counted::Count(n)
+    if present {
+        return Counted::Count(put_ordered(order, starts, parts, out));
+    }
+    Counted::Count(put_bytes(&parts[..n], out))
 }
 
-fn write_in_order(r: TransportParameters, out: &mut [u8]) -> Counted
-    requires { ⌜ r .«write_order» .present ≡ true ⌝ }
+// Where no order is present, the places are written in catalogue order.
+fn is_order(present: bool, places: &[u8; PLACES]) -> bool
+    requires { ⌜ length (now places) ≡ 21 ⌝ }
+    ensures { λ r. ⌜ r ≡ permutation (pick present (now (places .entry)) catalogueOrder) ⌝ }
+{
+    if !present {
+        return true;
+    }
+    is_permutation(places)
+}
+
+// Writes the record to the front of `out`, in its order.
+pub fn write(r: TransportParameters, out: &mut [u8]) -> Counted
     ensures { λ w. ⌜ (countOutcome w, now (out .exit)) ≡ write r (now (out .entry)) ⌝ }
 {
     if !r.is_well_formed() {
         return Counted::Refused(Refusal::IllFormed);
     }
     let places = r.write_order.places;
-    if !is_permutation(&places) {
+    if !is_order(r.write_order.present, &places) {
         return Counted::Refused(Refusal::InvalidOrder);
     }
-    write_ordered(r, &places, out)
-}
-
-// Writes the record to the front of `out`, in its order. Both ways test the record, so that the test stays a function of its own: inlined, it
-// has the whole record copied byte by byte.
-pub fn write(r: TransportParameters, out: &mut [u8]) -> Counted
-    ensures { λ w. ⌜ (countOutcome w, now (out .exit)) ≡ write r (now (out .entry)) ⌝ }
-{
-    if r.write_order.present {
-        return write_in_order(r, out);
-    }
-    if !r.is_well_formed() {
-        return Counted::Refused(Refusal::IllFormed);
-    }
-    write_unordered(r, out)
+    let mut starts = [0usize; PLACES + 1];
+    let mut parts = [0u8; MAX_EXTENSION];
+    let n = put_catalogue(r, &mut starts, &mut parts);
+    put_laid(n, r.write_order.present, &places, &starts, &parts, out)
 }

@@ -26,7 +26,7 @@ this : (c : tie.After-wide Inv-loop μ-loop)
 this c =
     let s = c .before .before .before .before .before .before in
     let l = c .before .before .before .loop in
-    part-room (s .args .starts .now) (s .args .parts .now) (s .args .order .now) (s .args .out .now) (l .k) _ (l .at) (s .pre) (omega arith) (l .inv .1 .count) (c .wide .ensures)
+    part-room (s .args .starts .now) (s .args .parts .now) (s .args .order .now) (s .args .out .now) (l .k) _ (l .at) (s .pre .0) (s .pre .1) (omega arith) (l .inv .1 .count) (c .wide .ensures)
 
 loop-holds : tie.Need-loop-holds Inv-loop μ-loop
 loop-holds c = (omega arith, wrote-none _ _, refl)
@@ -90,7 +90,7 @@ unfolding partAt
 loop-again c =
     let s = c .before .before .before .before .before .before .before .before .before .before .before .before .before in
     let l = c .before .before .before .before .before .before .before .before .before .before .loop in
-    let w = ordered-more (partAt (s .args .starts .now) (s .args .parts .now)) (s .args .order .now) (l .k) (omega (arith, s .pre .long)) (c .before .before .before .before .before .before .before .wide .result) (l .at) _ (s .args .out .now) (l .out) _ (s .pre .room) (l .inv .1) (c .before .before .before .before .before .before .before .wide .ensures) (c .before .before .put-bytes .ensures) in
+    let w = ordered-more (partAt (s .args .starts .now) (s .args .parts .now)) (s .args .order .now) (l .k) (omega (arith, s .pre .0 .long)) (c .before .before .before .before .before .before .before .wide .result) (l .at) _ (s .args .out .now) (l .out) _ (s .pre .1) (l .inv .1) (c .before .before .before .before .before .before .before .wide .ensures) (c .before .before .put-bytes .ensures) in
     (omega arith, w, wrote-length _ _ _ _ _ (omega arith) w)
 
 same-length : tie.Need-same-length Inv-loop μ-loop
@@ -100,7 +100,7 @@ returns : tie.Need-returns Inv-loop μ-loop
 returns c =
     let l = c .before .loop in
     let o = c .before .before .before .before .args .order .now in
-    let e : take (l .k) o ≡ o = take-all (l .k) o (omega (arith, c .before .before .before .before .pre .long)) in
+    let e : take (l .k) o ≡ o = take-all (l .k) o (omega (arith, c .before .before .before .before .pre .0 .long)) in
     rw e at (l .inv .1)
 
 pub put-ordered-spec : {M : Type 1} → statement M
