@@ -1,6 +1,7 @@
 -- `writer::put_numbers` meets its contract. The invariant: the first `i` places are laid. Assumes nothing.
 use Prim.Native.Nat.{_≤_, _-_, _+_}
 use native.Mathlib.Omega.{arith}
+use native.Mathlib.Nat.{le-refl}
 use mathlib.Core.Path.{_≡_, refl, _∙_}
 use lib.ListN.{length, length-set}
 use Rattle.catalogue.specs.Catalogue.{ids, idAt, defaults}
@@ -8,7 +9,7 @@ use Rattle.wire.specs.Wire.{numberAt}
 use Rattle.wire.specs.Stored.{each}
 use Rattle.wire.proofs.Put.{Behind, put-behind}
 use Rattle.writer.specs.Laid.{laid}
-use Rattle.writer.proofs.Laid.{number-more}
+use Rattle.writer.proofs.Laid.{index, place, number-more}
 use Rattle.writer.proofs.put_numbers.Statement.{statement}
 use Rattle.writer.proofs.put_numbers.Tie as tie
 
@@ -27,37 +28,37 @@ unfolding each laid
 loop-holds c = (omega arith, omega arith, refl, c .before .pre .1, refl)
 
 mul-put-number : tie.Need-mul-put-number Inv-loop μ-loop
-mul-put-number c = omega arith
+mul-put-number c = index _ (place _ (c .loop-test .taken)) .fits
 
 element-copy-out-put-number : tie.Need-element-copy-out-put-number Inv-loop μ-loop
-element-copy-out-put-number c = omega arith
+element-copy-out-put-number c = c .loop-test .taken
 
 mul-put-number-2 : tie.Need-mul-put-number-2 Inv-loop μ-loop
-mul-put-number-2 c = omega arith
+mul-put-number-2 c = index _ (place _ (c .before .loop-test .taken)) .fits
 
 array-read-put-number : tie.Need-array-read-put-number Inv-loop μ-loop
-array-read-put-number c = omega arith
+array-read-put-number c = c .before .loop-test .taken
 
 mul-put-number-3 : tie.Need-mul-put-number-3 Inv-loop μ-loop
-mul-put-number-3 c = omega arith
+mul-put-number-3 c = index _ (place _ (c .before .loop-test .taken)) .fits
 
 array-read-put-number-2 : tie.Need-array-read-put-number-2 Inv-loop μ-loop
-array-read-put-number-2 c = omega arith
+array-read-put-number-2 c = place _ (c .before .loop-test .taken)
 
 mul-put-number-4 : tie.Need-mul-put-number-4 Inv-loop μ-loop
-mul-put-number-4 c = omega arith
+mul-put-number-4 c = index _ (place _ (c .before .loop-test .taken)) .fits
 
 element-copy-out-put-number-2 : tie.Need-element-copy-out-put-number-2 Inv-loop μ-loop
-element-copy-out-put-number-2 c = omega arith
+element-copy-out-put-number-2 c = c .before .loop-test .taken
 
 sub-put-number : tie.Need-sub-put-number Inv-loop μ-loop
-sub-put-number c = omega arith
+sub-put-number c = c .before .before .before .loop .inv .1
 
 part-put-number-start : tie.Need-part-put-number-start Inv-loop μ-loop
-part-put-number-start c = omega arith
+part-put-number-start c = c .before .before .before .loop .inv .1
 
 part-put-number-end : tie.Need-part-put-number-end Inv-loop μ-loop
-part-put-number-end c = omega arith
+part-put-number-end c = le-refl _
 
 put-number-requires : tie.Need-put-number-requires Inv-loop μ-loop
 put-number-requires c κs = tt
@@ -66,13 +67,13 @@ add-at : tie.Need-add-at Inv-loop μ-loop
 add-at c = omega (arith, kept c .within, kept c .same)
 
 add-i : tie.Need-add-i Inv-loop μ-loop
-add-i c = omega arith
+add-i c = index _ (place _ (c .before .before .before .before .before .before .loop-test .taken)) .next-fits
 
 mul-starts : tie.Need-mul-starts Inv-loop μ-loop
-mul-starts c = omega arith
+mul-starts c = index _ (place _ (c .before .before .before .before .before .before .loop-test .taken)) .fits-next
 
 element-write-starts : tie.Need-element-write-starts Inv-loop μ-loop
-element-write-starts c = omega arith
+element-write-starts c = index _ (place _ (c .before .before .before .before .before .before .loop-test .taken)) .next
 
 loop-less : tie.Need-loop-less Inv-loop μ-loop
 loop-less c = omega arith

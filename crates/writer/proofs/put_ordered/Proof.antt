@@ -1,6 +1,7 @@
 -- `writer::put_ordered` meets its contract. The invariant: the parameters at the first `k` places of the order stand at the front. Assumes nothing.
 use Prim.Native.Nat.{_-_, _≤_}
 use native.Mathlib.Omega.{arith}
+use native.Mathlib.Nat.{le-refl}
 use mathlib.Core.Path.{_≡_, refl}
 use lib.ListN.{length, take}
 use lib.Seq.{take-all}
@@ -10,6 +11,7 @@ use Rattle.writer.specs.Laid.{partAt}
 use Rattle.wire.specs.Stored.{Wrote}
 use Rattle.wire.proofs.Stored.{wrote-none, wrote-length}
 use Rattle.wire.proofs.Put.{Behind, put-behind}
+use Rattle.writer.proofs.Laid.{index}
 use Rattle.writer.proofs.Ordered.{Part, part-room, ordered-more}
 use Rattle.writer.proofs.put_ordered.Statement.{statement}
 use Rattle.writer.proofs.put_ordered.Tie as tie
@@ -38,19 +40,19 @@ wide-requires : tie.Need-wide-requires Inv-loop μ-loop
 wide-requires c κs = tt
 
 mul-from : tie.Need-mul-from Inv-loop μ-loop
-mul-from c = omega (arith, this c .place)
+mul-from c = index _ (this c .place) .fits
 
 element-copy-out-from : tie.Need-element-copy-out-from Inv-loop μ-loop
-element-copy-out-from c = omega (arith, this c .place)
+element-copy-out-from c = index _ (this c .place) .here
 
 add-to : tie.Need-add-to Inv-loop μ-loop
-add-to c = omega (arith, this (c .before) .place)
+add-to c = index _ (this (c .before) .place) .next-fits
 
 mul-to : tie.Need-mul-to Inv-loop μ-loop
-mul-to c = omega (arith, this (c .before) .place)
+mul-to c = index _ (this (c .before) .place) .fits-next
 
 element-copy-out-to : tie.Need-element-copy-out-to Inv-loop μ-loop
-element-copy-out-to c = omega (arith, this (c .before) .place)
+element-copy-out-to c = index _ (this (c .before) .place) .next
 
 sub-put-bytes : tie.Need-sub-put-bytes Inv-loop μ-loop
 sub-put-bytes c = this (c .before .before) .forward
@@ -68,7 +70,7 @@ part-put-bytes-start-2 : tie.Need-part-put-bytes-start-2 Inv-loop μ-loop
 part-put-bytes-start-2 c = omega (arith, this (c .before .before .before) .room)
 
 part-put-bytes-end-2 : tie.Need-part-put-bytes-end-2 Inv-loop μ-loop
-part-put-bytes-end-2 c = omega arith
+part-put-bytes-end-2 c = le-refl _
 
 put-bytes-requires : tie.Need-put-bytes-requires Inv-loop μ-loop
 put-bytes-requires c κs = tt
