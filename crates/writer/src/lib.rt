@@ -70,9 +70,8 @@ fn put_cid(id: u64, o: OptionalConnectionId, out: &mut [u8]) -> usize
     requires { ⌜ formedOptionalCid o ≡ true ⌝ }
     ensures { λ r. ⌜ (r, now (out .exit)) ≡ put (dueValue (o .present) id (cidBytes (o .cid))) (now (out .entry)) ⌝ }
 {
-    let cid = o.cid;
-    let n = wide(cid.len);
-    let bytes = cid.bytes;
+    let n = wide(o.cid.len);
+    let bytes = o.cid.bytes;
     put_value(o.present, id, &bytes[..n], out)
 }
 
@@ -92,12 +91,14 @@ fn put_address(a: PreferredAddress, out: &mut [u8]) -> usize
     if !a.present {
         return 0;
     }
-    let v4 = a.address_v4;
-    let v6 = a.address_v6;
-    let cid = a.connection_id;
-    let token = a.stateless_reset_token;
     let mut value = [0u8; MAX_ADDRESS];
-    let n = put_address_value(v4, v6, cid, token, &mut value);
+    let n = put_address_value(
+        a.address_v4,
+        a.address_v6,
+        a.connection_id,
+        a.stateless_reset_token,
+        &mut value,
+    );
     put_value(true, ADDRESS_ID, &value[..n], out)
 }
 
@@ -178,8 +179,7 @@ fn put_11_to_13(
         ≡ laid (dueValue (x .present) (x .id) (take (x .«payload_len») (x .payload)) ∷ dueValue (t .present) (idAt 12) (t .token .bytes)
             ∷ dueValue migration (idAt 13) [] ∷ []) 12 at (now (out .entry)) (now (starts .entry)) ⌝ }
 {
-    let token = t.token;
-    let bytes = token.bytes;
+    let bytes = t.token.bytes;
     let a = at + put_reserved(x, &mut out[at..]);
     let b = a + put_value(t.present, TOKEN_ID, &bytes, &mut out[a..]);
     let end = b + put_value(migration, MIGRATION_ID, &[], &mut out[b..]);
@@ -243,18 +243,34 @@ fn put_catalogue(r: TransportParameters, starts: &mut [usize; PLACES + 1], out: 
         ≡ laid (each (parameterAt r) places) 1 0 (now (out .entry)) (now (starts .entry)) ⌝ }
 {
     let numbers = r.numbers;
-    let x = r.grease_transport_parameter;
-    let t = r.stateless_reset_token;
     let d = r.max_datagram_frame_size;
-    let p = r.preferred_address;
-    let original = r.original_dst_cid;
-    let initial = r.initial_src_cid;
-    let retry = r.retry_src_cid;
     let delay = r.min_ack_delay;
     let a = put_numbers(&numbers, starts, out);
-    let b = put_11_to_13(x, t, r.disable_active_migration, a, starts, out);
-    let e = put_14_to_16(d, p, original, b, starts, out);
-    put_17_to_20(initial, retry, r.grease_quic_bit, delay, e, starts, out)
+    let b = put_11_to_13(
+        r.grease_transport_parameter,
+        r.stateless_reset_token,
+        r.disable_active_migration,
+        a,
+        starts,
+        out,
+    );
+    let e = put_14_to_16(
+        d,
+        r.preferred_address,
+        r.original_dst_cid,
+        b,
+        starts,
+        out,
+    );
+    put_17_to_20(
+        r.initial_src_cid,
+        r.retry_src_cid,
+        r.grease_quic_bit,
+        delay,
+        e,
+        starts,
+        out,
+    )
 }
 
 // Copies the parameters of `parts` to `out` in an order; that of place p stands from `starts[p]` to `starts[p + 1]`.

@@ -14,17 +14,17 @@ use borrow.Author.Needs.{needs}
 use Rattle.writer.proofs.put_11_to_13.Statement.{statement}
 use Rattle.writer.proofs.put_11_to_13.Tie as tie
 
-room : (c : tie.After-slice-known2) → length (c .before .before .before .before .before .before .before .args .out .now) < 2 ^ 64
+room : (c : tie.After-slice-known2) → length (c .before .before .before .before .before .before .args .out .now) < 2 ^ 64
 room c = omega arith
 
 -- how far each goes
-one : (c : tie.After-slice-known2) → Behind (c .before .before .before .before .before .before .before .args .at) (c .before .before .put-reserved .result) (c .before .before .before .before .before .before .before .args .out .now) (c .before .before .put-reserved .last .1 .0)
-one c = put-behind _ _ _ _ _ (c .before .before .before .before .before .before .before .pre .1) (c .before .before .put-reserved .ensures)
+one : (c : tie.After-slice-known2) → Behind (c .before .before .before .before .before .before .args .at) (c .before .before .put-reserved .result) (c .before .before .before .before .before .before .args .out .now) (c .before .before .put-reserved .last .1 .0)
+one c = put-behind _ _ _ _ _ (c .before .before .before .before .before .before .pre .1) (c .before .before .put-reserved .ensures)
 
-two : (c : tie.After-slice-known3) → Behind (c .before .before .before .before .before .before .before .before .before .before .before .before .args .at + c .before .before .before .before .before .before .before .put-reserved .result) (c .before .before .put-value .result) (back (c .before .before .before .before .before .before .before .before .before .before .before .before .args .at) (c .before .before .before .before .before .before .before .before .before .before .before .before .args .out .now) (c .before .before .before .before .before .before .before .put-reserved .last .1 .0)) (c .before .before .put-value .last .1 .1 .1 .0)
+two : (c : tie.After-slice-known3) → Behind (c .before .before .before .before .before .before .before .before .before .before .before .args .at + c .before .before .before .before .before .before .before .put-reserved .result) (c .before .before .put-value .result) (back (c .before .before .before .before .before .before .before .before .before .before .before .args .at) (c .before .before .before .before .before .before .before .before .before .before .before .args .out .now) (c .before .before .before .before .before .before .before .put-reserved .last .1 .0)) (c .before .before .put-value .last .1 .1 .1 .0)
 two c = put-behind _ _ _ _ _ (one (c .before .before .before .before .before) .within) (c .before .before .put-value .ensures)
 
-three : (c : tie.After-slice-known4) → Behind (c .before .before .before .before .before .before .before .before .before .before .before .before .before .before .before .before .before .args .at + c .before .before .before .before .before .before .before .before .before .before .before .before .put-reserved .result + c .before .before .before .before .before .before .before .put-value .result) (c .before .before .put-value2 .result) (back (c .before .before .before .before .before .before .before .before .before .before .before .before .before .before .before .before .before .args .at + c .before .before .before .before .before .before .before .before .before .before .before .before .put-reserved .result) (back (c .before .before .before .before .before .before .before .before .before .before .before .before .before .before .before .before .before .args .at) (c .before .before .before .before .before .before .before .before .before .before .before .before .before .before .before .before .before .args .out .now) (c .before .before .before .before .before .before .before .before .before .before .before .before .put-reserved .last .1 .0)) (c .before .before .before .before .before .before .before .put-value .last .1 .1 .1 .0)) (c .before .before .put-value2 .last .1 .1 .1 .0)
+three : (c : tie.After-slice-known4) → Behind (c .before .before .before .before .before .before .before .before .before .before .before .before .before .before .before .before .args .at + c .before .before .before .before .before .before .before .before .before .before .before .before .put-reserved .result + c .before .before .before .before .before .before .before .put-value .result) (c .before .before .put-value2 .result) (back (c .before .before .before .before .before .before .before .before .before .before .before .before .before .before .before .before .args .at + c .before .before .before .before .before .before .before .before .before .before .before .before .put-reserved .result) (back (c .before .before .before .before .before .before .before .before .before .before .before .before .before .before .before .before .args .at) (c .before .before .before .before .before .before .before .before .before .before .before .before .before .before .before .before .args .out .now) (c .before .before .before .before .before .before .before .before .before .before .before .before .put-reserved .last .1 .0)) (c .before .before .before .before .before .before .before .put-value .last .1 .1 .1 .0)) (c .before .before .put-value2 .last .1 .1 .1 .0)
 three c = put-behind _ _ _ _ _ (two (c .before .before .before .before .before) .within) (c .before .before .put-value2 .ensures)
 
 sub-put-reserved : tie.Need-sub-put-reserved
@@ -93,7 +93,7 @@ same-length c = three c .same ∙ two (c .before .before .before .before .before
 returns : tie.Need-returns
 unfolding laid idAt ids
 returns c = 
-    let a = c .before .before .before .before .before .before .before .before .before .before .before .before .before .before .before .before .before .args in
+    let a = c .before .before .before .before .before .before .before .before .before .before .before .before .before .before .before .before .args in
     laid-three _ _ _ 12 (a .at) _ _ _ (a .out .now) _ _ _ (a .starts .now)
     (c .before .before .before .before .before .before .before .before .before .before .before .before .put-reserved .ensures)
     (c .before .before .before .before .before .before .before .put-value .ensures)
