@@ -40,6 +40,13 @@ pub record Index (p : ℕ) : Type 0 where
 pub index : (p : ℕ) → p < places → Index p
 index p h = record { here = omega arith; next = omega arith; fits = omega arith; next-fits = omega arith; fits-next = omega arith }
 
+-- a turn of a loop
+pub turn-le : (i n : ℕ) → i < n → i + 1 ≤ n
+turn-le i n h = omega arith
+
+pub turn-less : (i n : ℕ) → i < n → n - (i + 1) < n - i
+turn-less i n h = omega arith
+
 pub place : (i : ℕ) → i < 11 → i < places
 place i h = omega arith
 

@@ -1,5 +1,5 @@
 -- `writer::put_numbers` meets its contract. The invariant: the first `i` places are laid. Assumes nothing.
-use Prim.Native.Nat.{_≤_, _-_, _+_}
+use Prim.Native.Nat.{_≤_, _<_, _-_, _^_}
 use native.Mathlib.Omega.{arith}
 use native.Mathlib.Nat.{le-refl}
 use mathlib.Core.Path.{_≡_, refl, _∙_}
@@ -9,7 +9,7 @@ use Rattle.wire.specs.Wire.{numberAt}
 use Rattle.wire.specs.Stored.{each}
 use Rattle.wire.proofs.Put.{Behind, put-behind}
 use Rattle.writer.specs.Laid.{laid}
-use Rattle.writer.proofs.Laid.{index, place, number-more}
+use Rattle.writer.proofs.Laid.{index, place, turn-le, turn-less, fits-behind, number-more}
 use Rattle.writer.proofs.put_numbers.Statement.{statement}
 use Rattle.writer.proofs.put_numbers.Tie as tie
 
@@ -22,6 +22,9 @@ abbrev μ-loop : tie.MeasureT-loop
 -- how far this turn goes
 kept : (c : tie.After-slice-known2 Inv-loop μ-loop) → Behind (c .before .before .before .before .before .before .before .loop .at) (c .before .before .put-number .result) (c .before .before .before .before .before .before .before .loop .out) (c .before .before .put-number .last .1 .1 .1 .0)
 kept c = put-behind _ _ _ _ _ (c .before .before .before .before .before .before .before .loop .inv .1) (c .before .before .put-number .ensures)
+
+room : (c : tie.After-slice-known Inv-loop μ-loop) → length (c .before .args .out .now) < 2 ^ 64
+room c = omega arith
 
 loop-holds : tie.Need-loop-holds Inv-loop μ-loop
 unfolding each laid
@@ -64,7 +67,7 @@ put-number-requires : tie.Need-put-number-requires Inv-loop μ-loop
 put-number-requires c κs = tt
 
 add-at : tie.Need-add-at Inv-loop μ-loop
-add-at c = omega (arith, kept c .within, kept c .same)
+add-at c = fits-behind (kept c) (c .before .before .before .before .before .before .before .loop .inv .2) (room (c .before .before .before .before .before .before .before .before))
 
 add-i : tie.Need-add-i Inv-loop μ-loop
 add-i c = index _ (place _ (c .before .before .before .before .before .before .loop-test .taken)) .next-fits
@@ -76,7 +79,7 @@ element-write-starts : tie.Need-element-write-starts Inv-loop μ-loop
 element-write-starts c = index _ (place _ (c .before .before .before .before .before .before .loop-test .taken)) .next
 
 loop-less : tie.Need-loop-less Inv-loop μ-loop
-loop-less c = omega arith
+loop-less c = turn-less _ 11 (c .before .before .before .before .before .before .loop-test .taken)
 
 loop-again : tie.Need-loop-again Inv-loop μ-loop
 unfolding numberAt idAt ids defaults
@@ -84,7 +87,7 @@ loop-again c =
     let l = c .before .before .before .before .before .before .before .loop in
     let a = c .before .before .before .before .before .before .before .before .before .args in
     let k = kept c in
-    (omega arith, k .within, k .same ∙ l .inv .2, length-set (l .starts) _ _ ∙ l .inv .3,
+    (turn-le _ _ (c .before .before .before .before .before .before .loop-test .taken), k .within, k .same ∙ l .inv .2, length-set (l .starts) _ _ ∙ l .inv .3,
     number-more (numberAt (a .numbers .now)) (l .i) (l .at) _ (a .out .now) (a .starts .now) (l .out) (l .starts) _ (l .inv .4) (c .before .before .put-number .ensures))
 
 same-length : tie.Need-same-length Inv-loop μ-loop
