@@ -159,7 +159,12 @@ fn put_numbers(numbers: &[u64; NUMBERS], starts: &mut [usize; PLACES + 1], out: 
     let mut at: usize = 0;
     let mut i: usize = 0;
     while i < NUMBERS {
-        at += put_number(numbers[i] != defaults[i], ids[i], numbers[i], &mut out[at..]);
+        at += put_number(
+            numbers[i] != defaults[i],
+            ids[i],
+            numbers[i],
+            &mut out[at..],
+        );
         i += 1;
         starts[i] = at;
     }
@@ -177,7 +182,7 @@ fn put_11_to_13(
     requires { ⌜ (formedReserved x ≡ true) × (at ≤ length (now out)) × (length (now starts) ≡ places + 1) ⌝ }
     ensures { λ r. ⌜ (r, now (out .exit), now (starts .exit))
         ≡ laid (dueValue (x .present) (x .id) (take (x .«payload_len») (x .payload)) ∷ dueValue (t .present) (idAt 12) (t .token .bytes)
-            ∷ dueValue migration (idAt 13) [] ∷ []) 12 at (now (out .entry)) (now (starts .entry)) ⌝ }
+        ∷ dueValue migration (idAt 13) [] ∷ []) 12 at (now (out .entry)) (now (starts .entry)) ⌝ }
 {
     let bytes = t.token.bytes;
     let a = at + put_reserved(x, &mut out[at..]);
@@ -200,7 +205,7 @@ fn put_14_to_16(
     requires { ⌜ (formedAddress p ≡ true) × (formedOptionalCid original ≡ true) × (at ≤ length (now out)) × (length (now starts) ≡ places + 1) ⌝ }
     ensures { λ r. ⌜ (r, now (out .exit), now (starts .exit))
         ≡ laid (dueNumber (isPresent d) (idAt 14) (least d) ∷ dueValue (p .present) (idAt 15) (addressBytes p)
-            ∷ dueValue (original .present) (idAt 16) (cidBytes (original .cid)) ∷ []) 15 at (now (out .entry)) (now (starts .entry)) ⌝ }
+        ∷ dueValue (original .present) (idAt 16) (cidBytes (original .cid)) ∷ []) 15 at (now (out .entry)) (now (starts .entry)) ⌝ }
 {
     let a = at + put_number(d.is_present(), DATAGRAM_ID, d.or_zero(), &mut out[at..]);
     let b = a + put_address(p, &mut out[a..]);
@@ -223,12 +228,18 @@ fn put_17_to_20(
     requires { ⌜ (formedOptionalCid initial ≡ true) × (formedOptionalCid retry ≡ true) × (at ≤ length (now out)) × (length (now starts) ≡ places + 1) ⌝ }
     ensures { λ r. ⌜ (r, now (out .exit), now (starts .exit))
         ≡ laid (dueValue (initial .present) (idAt 17) (cidBytes (initial .cid)) ∷ dueValue (retry .present) (idAt 18) (cidBytes (retry .cid))
-            ∷ dueValue grease (idAt 19) [] ∷ dueNumber (isPresent delay) (idAt 20) (least delay) ∷ []) 18 at (now (out .entry)) (now (starts .entry)) ⌝ }
+        ∷ dueValue grease (idAt 19) [] ∷ dueNumber (isPresent delay) (idAt 20) (least delay) ∷ []) 18 at (now (out .entry)) (now (starts .entry)) ⌝ }
 {
     let a = at + put_cid(INITIAL_ID, initial, &mut out[at..]);
     let b = a + put_cid(RETRY_ID, retry, &mut out[a..]);
     let e = b + put_value(grease, GREASE_ID, &[], &mut out[b..]);
-    let end = e + put_number(delay.is_present(), ACK_DELAY_ID, delay.or_zero(), &mut out[e..]);
+    let end = e
+        + put_number(
+            delay.is_present(),
+            ACK_DELAY_ID,
+            delay.or_zero(),
+            &mut out[e..],
+        );
     starts[18] = a;
     starts[19] = b;
     starts[20] = e;
@@ -254,14 +265,7 @@ fn put_catalogue(r: TransportParameters, starts: &mut [usize; PLACES + 1], out: 
         starts,
         out,
     );
-    let e = put_14_to_16(
-        d,
-        r.preferred_address,
-        r.original_dst_cid,
-        b,
-        starts,
-        out,
-    );
+    let e = put_14_to_16(d, r.preferred_address, r.original_dst_cid, b, starts, out);
     put_17_to_20(
         r.initial_src_cid,
         r.retry_src_cid,
@@ -274,7 +278,12 @@ fn put_catalogue(r: TransportParameters, starts: &mut [usize; PLACES + 1], out: 
 }
 
 // Copies the parameters of `parts` to `out` in an order; that of place p stands from `starts[p]` to `starts[p + 1]`.
-fn put_ordered(order: &[u8; PLACES], starts: &[usize; PLACES + 1], parts: &[u8], out: &mut [u8]) -> usize
+fn put_ordered(
+    order: &[u8; PLACES],
+    starts: &[usize; PLACES + 1],
+    parts: &[u8],
+    out: &mut [u8],
+) -> usize
     requires { ⌜ InOrder (now order) (now starts) (now parts) × (length (concatOf (partAt (now starts) (now parts)) (now order)) ≤ length (now out)) ⌝ }
     ensures { λ r. ⌜ Wrote (length (now (out .entry))) (concatOf (partAt (now (starts .entry)) (now (parts .entry))) (now (order .entry)))
         (now (out .entry)) r (now (out .exit)) ⌝ }

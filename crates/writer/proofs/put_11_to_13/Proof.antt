@@ -92,7 +92,7 @@ same-length c = three c .same ∙ two (c .before .before .before .before .before
 
 returns : tie.Need-returns
 unfolding laid idAt ids
-returns c = 
+returns c =
     let a = c .before .before .before .before .before .before .before .before .before .before .before .before .before .before .before .before .args in
     laid-three _ _ _ 12 (a .at) _ _ _ (a .out .now) _ _ _ (a .starts .now)
     (c .before .before .before .before .before .before .before .before .before .before .before .before .put-reserved .ensures)

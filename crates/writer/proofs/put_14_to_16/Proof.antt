@@ -92,7 +92,7 @@ same-length c = three c .same ∙ two (c .before .before .before .before) .same 
 
 returns : tie.Need-returns
 unfolding laid idAt ids
-returns c = 
+returns c =
     let a = c .before .before .before .before .before .before .before .before .before .before .before .before .before .before .before .args in
     laid-three _ _ _ 15 (a .at) _ _ _ (a .out .now) _ _ _ (a .starts .now)
     (rw (c .before .before .before .before .before .before .before .before .before .before .before .before .before .is-present .ensures, c .before .before .before .before .before .before .before .before .before .before .before .before .or-zero .ensures) at (c .before .before .before .before .before .before .before .before .before .before .put-number .ensures))

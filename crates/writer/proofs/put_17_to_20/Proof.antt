@@ -116,7 +116,7 @@ same-length c = four c .same ∙ three (c .before .before .before .before .befor
 
 returns : tie.Need-returns
 unfolding laid idAt ids
-returns c = 
+returns c =
     let a = c .before .before .before .before .before .before .before .before .before .before .before .before .before .before .before .before .before .before .before .before .args in
     laid-four _ _ _ 18 (a .at) _ _ _ (a .out .now) _ _ _ (a .starts .now)
     (c .before .before .before .before .before .before .before .before .before .before .before .before .before .before .before .before .before .put-cid .ensures)

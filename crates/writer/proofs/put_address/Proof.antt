@@ -34,7 +34,7 @@ same-length c = search needs
 
 returns-2 : tie.Need-returns-2
 unfolding idAt ids
-returns-2 c = 
+returns-2 c =
     let w = c .before .before .before .before .before .before .put-address-value .ensures in
     rw (not-false (c .before .before .before .before .before .before .before .before .before .before .before .args .a .present) (c .before .before .before .before .before .before .before .before .if1 .left), ← whole-part _ _ _ _ _ w) (c .before .before .put-value .ensures)
 

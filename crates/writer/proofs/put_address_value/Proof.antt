@@ -29,7 +29,7 @@ same-length : tie.Need-same-length
 same-length c = search needs
 
 returns : tie.Need-returns
-returns c = 
+returns c =
     let s = c .before .before .before .before .before .before .before .before .before in
     wrote-as _ _ _ _ _ _ (append-assoc (familyOut (ofV4 (s .args .v4))) (familyOut (ofV6 (s .args .v6))) _) (wrote-then 24 37 24 _ _ _ (s .args .out .now) _ _ (s .pre .1) (c .before .before .before .before .before .before .put-families .ensures) (c .before .before .put-cid-and-token .ensures))
 

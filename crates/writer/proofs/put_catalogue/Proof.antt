@@ -26,14 +26,14 @@ put-11-to-13-requires : tie.Need-put-11-to-13-requires
 put-11-to-13-requires c κs = let s = c .before .before .before .before .before .before .before .before .before .before in let w = one c in (formed _ (s .pre .0) .reserved, w .0, w .2 ∙ s .pre .1)
 
 put-14-to-16-requires : tie.Need-put-14-to-16-requires
-put-14-to-16-requires c κs = 
+put-14-to-16-requires c κs =
     let s = c .before .before .before .before .before .before .before .before .before .before .before .before .before .before .before in
     let f = formed _ (s .pre .0) in
     let w = two c in
     (f .address, f .original, w .0, w .2 ∙ one (c .before .before .before .before .before) .2 ∙ s .pre .1)
 
 put-17-to-20-requires : tie.Need-put-17-to-20-requires
-put-17-to-20-requires c κs = 
+put-17-to-20-requires c κs =
     let s = c .before .before .before .before .before .before .before .before .before .before .before .before .before .before .before .before .before .before .before .before in
     let f = formed _ (s .pre .0) in
     let w = three c in
@@ -43,7 +43,7 @@ same-length : tie.Need-same-length
 same-length c = search needs
 
 returns : tie.Need-returns
-returns c = 
+returns c =
     let s = c .before .before .before .before .before .before .before .before .before .before .before .before .before .before .before .before .before .before .before .before .before .before .before in
     let a = s .args in
     whole-catalogue (a .r) (s .pre .0) _ _ _ _ (a .out .now) (a .starts .now) _ _ _ _ _ _ _ _ (c .before .before .before .before .before .before .before .before .before .before .before .before .before .before .before .before .before .put-numbers .ensures) (c .before .before .before .before .before .before .before .before .before .before .before .before .put-11-to-13 .ensures) (c .before .before .before .before .before .before .before .put-14-to-16 .ensures) (c .before .before .put-17-to-20 .ensures)

@@ -38,7 +38,7 @@ same-length : tie.Need-same-length
 same-length c = search needs
 
 returns : tie.Need-returns
-returns c = 
+returns c =
     let s = c .before .before .before .before .before .before .before .before .before .before .before .before .before in
     let a = s .args in
     wrote-then 6 18 6 18 _ _ (a .out .now) _ _ (s .pre) (family-wrote 4 (ofV4 (a .v4)) _ _ (known s .0) (c .before .before .before .before .before .before .before .put-family .ensures))

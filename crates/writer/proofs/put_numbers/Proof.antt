@@ -83,18 +83,22 @@ loop-less c = turn-less _ 11 (c .before .before .before .before .before .before 
 
 loop-again : tie.Need-loop-again Inv-loop μ-loop
 unfolding numberAt idAt ids defaults
-loop-again c = 
+loop-again c =
     let l = c .before .before .before .before .before .before .before .loop in
     let a = c .before .before .before .before .before .before .before .before .before .args in
-    let k = kept c in
-    (turn-le _ _ (c .before .before .before .before .before .before .loop-test .taken), k .within, k .same ∙ l .inv .2, length-set (l .starts) _ _ ∙ l .inv .3,
-    number-more (numberAt (a .numbers .now)) (l .i) (l .at) _ (a .out .now) (a .starts .now) (l .out) (l .starts) _ (l .inv .4) (c .before .before .put-number .ensures))
+    let k = kept c in (
+      turn-le _ _ (c .before .before .before .before .before .before .loop-test .taken),
+      k .within,
+      k .same ∙ l .inv .2,
+      length-set (l .starts) _ _ ∙ l .inv .3,
+      number-more (numberAt (a .numbers .now)) (l .i) (l .at) _ (a .out .now) (a .starts .now) (l .out) (l .starts) _ (l .inv .4) (c .before .before .put-number .ensures),
+    )
 
 same-length : tie.Need-same-length Inv-loop μ-loop
 same-length c = c .before .loop .inv .2
 
 returns : tie.Need-returns Inv-loop μ-loop
-returns c = 
+returns c =
     let l = c .before .loop in
     let e : l .i ≡ 11 = omega arith in
     rw e at (l .inv .4)

@@ -53,7 +53,7 @@ same-length : tie.Need-same-length
 same-length c = search needs
 
 returns-3 : tie.Need-returns-3
-returns-3 c = 
+returns-3 c =
     let a = c .before .before .before .before .before .before .before .before .before .before .before .before .before .before .before .before .before .before .args in
     let p = orderly (c .before .before .before .before .before .before .before .before .before .before .before) in
     let d = due (a .r) (well (c .before .before .before .before .before .before .before .before .before .before .before .before .before .before .before)) _ (replicate maxExtension 0) _ _ (omega arith) p (c .before .before .before .before .before .before .before .before .put-catalogue .ensures) in
