@@ -3,7 +3,7 @@
 --     laid-then      some, then others
 --     laid-within    never beyond the buffer
 --     laid-room      with room for all: where they stand, and where each ends
-use Prim.Native.Nat.{ℕ, zero, suc, _+_, _-_, _*_, _^_, _≤_, _<_}
+use Prim.Native.Nat.{ℕ, suc, _+_, _-_, _*_, _^_, _≤_, _<_}
 use mir.Val.{Fits}
 use mir.Syntax.{w64}
 use mathlib.Core.List.{List, [], _∷_, _++_, append-assoc}

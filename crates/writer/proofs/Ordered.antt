@@ -11,8 +11,8 @@ use mathlib.Core.Bool.{Bool, true, false}
 use native.Mathlib.Omega.{arith}
 use native.Mathlib.Nat.{add-zero, zero-add}
 use native.Mathlib.Numerals.{add-one}
-use lib.ListN.{length, getD, take, drop, replicate, length-append, length-drop, take-append-drop, List·getD-append}
-use lib.Seq.{take-suc, split-at, take-append-seam, drop-append-add, length-take-le, getD-at, sets, sets-eq}
+use lib.ListN.{length, getD, take, drop, replicate, length-append, take-append-drop, List·getD-append}
+use lib.Seq.{take-suc, split-at, take-append-seam, drop-append-add, getD-at, sets, sets-eq}
 use borrow.Author.Tests.{eqb-true, eqb-false}
 use lib.Dec.{eqb}
 use Rattle.refusal.specs.Outcome.{front}

@@ -10,7 +10,6 @@ use Rattle.wire.proofs.Stored.{back}
 use Rattle.wire.proofs.Put.{Behind, put-behind}
 use Rattle.writer.specs.Laid.{laid}
 use Rattle.writer.proofs.Laid.{fits-behind, laid-four}
-use borrow.Author.Needs.{needs}
 use Rattle.writer.proofs.put_17_to_20.Statement.{statement}
 use Rattle.writer.proofs.put_17_to_20.Tie as tie
 

@@ -1,5 +1,4 @@
 -- `writer::put_address_value` meets its contract. Assumes nothing.
-use native.Mathlib.Omega.{arith}
 use mathlib.Core.List.{append-assoc}
 use Rattle.record.specs.Values.{ofV4, ofV6, familyOut}
 use Rattle.wire.proofs.Stored.{wrote-as, wrote-then}
