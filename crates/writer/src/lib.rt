@@ -17,10 +17,19 @@ ghost use Rattle.wire.specs.Stored.{Wrote, each};
 ghost use Rattle.writer.specs.Writing.{parameterAt, concatOf, write};
 ghost use Rattle.writer.specs.Laid.{laid, addressBytes, partAt, InOrder, bytesIn, Ready};
 use catalogue::DEFAULTS;
+use catalogue::DISABLE_ACTIVE_MIGRATION;
+use catalogue::GREASE_QUIC_BIT;
 use catalogue::IDS;
+use catalogue::INITIAL_SRC_CID;
+use catalogue::MAX_DATAGRAM_FRAME_SIZE;
 use catalogue::MAX_EXTENSION;
+use catalogue::MIN_ACK_DELAY;
 use catalogue::NUMBERS;
+use catalogue::ORIGINAL_DST_CID;
 use catalogue::PLACES;
+use catalogue::PREFERRED_ADDRESS;
+use catalogue::RETRY_SRC_CID;
+use catalogue::STATELESS_RESET_TOKEN;
 use connection_id::ConnectionId;
 use order::is_permutation;
 use record::OptionalConnectionId;
@@ -41,23 +50,24 @@ use wire::put_value;
 // The longest value of a preferred address, in bytes.
 const MAX_ADDRESS: usize = 61;
 
-const TOKEN_ID: u64 = IDS[catalogue::STATELESS_RESET_TOKEN];
+// The identifiers of the places that hold no plain number.
+const TOKEN_ID: u64 = IDS[STATELESS_RESET_TOKEN];
 
-const MIGRATION_ID: u64 = IDS[catalogue::DISABLE_ACTIVE_MIGRATION];
+const MIGRATION_ID: u64 = IDS[DISABLE_ACTIVE_MIGRATION];
 
-const DATAGRAM_ID: u64 = IDS[catalogue::MAX_DATAGRAM_FRAME_SIZE];
+const DATAGRAM_ID: u64 = IDS[MAX_DATAGRAM_FRAME_SIZE];
 
-const ADDRESS_ID: u64 = IDS[catalogue::PREFERRED_ADDRESS];
+const ADDRESS_ID: u64 = IDS[PREFERRED_ADDRESS];
 
-const ORIGINAL_ID: u64 = IDS[catalogue::ORIGINAL_DST_CID];
+const ORIGINAL_ID: u64 = IDS[ORIGINAL_DST_CID];
 
-const INITIAL_ID: u64 = IDS[catalogue::INITIAL_SRC_CID];
+const INITIAL_ID: u64 = IDS[INITIAL_SRC_CID];
 
-const RETRY_ID: u64 = IDS[catalogue::RETRY_SRC_CID];
+const RETRY_ID: u64 = IDS[RETRY_SRC_CID];
 
-const GREASE_ID: u64 = IDS[catalogue::GREASE_QUIC_BIT];
+const GREASE_ID: u64 = IDS[GREASE_QUIC_BIT];
 
-const ACK_DELAY_ID: u64 = IDS[catalogue::MIN_ACK_DELAY];
+const ACK_DELAY_ID: u64 = IDS[MIN_ACK_DELAY];
 
 fn wide(x: u8) -> usize
     ensures { λ r. ⌜ r ≡ x ⌝ }
@@ -188,9 +198,9 @@ fn put_11_to_13(
     let a = at + put_reserved(x, &mut out[at..]);
     let b = a + put_value(t.present, TOKEN_ID, &bytes, &mut out[a..]);
     let end = b + put_value(migration, MIGRATION_ID, &[], &mut out[b..]);
-    starts[12] = a;
-    starts[13] = b;
-    starts[14] = end;
+    starts[STATELESS_RESET_TOKEN] = a;
+    starts[DISABLE_ACTIVE_MIGRATION] = b;
+    starts[MAX_DATAGRAM_FRAME_SIZE] = end;
     end
 }
 
@@ -210,9 +220,9 @@ fn put_14_to_16(
     let a = at + put_number(d.is_present(), DATAGRAM_ID, d.or_zero(), &mut out[at..]);
     let b = a + put_address(p, &mut out[a..]);
     let end = b + put_cid(ORIGINAL_ID, original, &mut out[b..]);
-    starts[15] = a;
-    starts[16] = b;
-    starts[17] = end;
+    starts[PREFERRED_ADDRESS] = a;
+    starts[ORIGINAL_DST_CID] = b;
+    starts[INITIAL_SRC_CID] = end;
     end
 }
 
@@ -240,10 +250,10 @@ fn put_17_to_20(
             delay.or_zero(),
             &mut out[e..],
         );
-    starts[18] = a;
-    starts[19] = b;
-    starts[20] = e;
-    starts[21] = end;
+    starts[RETRY_SRC_CID] = a;
+    starts[GREASE_QUIC_BIT] = b;
+    starts[MIN_ACK_DELAY] = e;
+    starts[PLACES] = end;
     end
 }
 
@@ -322,18 +332,19 @@ fn put_laid(
     Counted::Count(put_bytes(&parts[..n], out))
 }
 
-// Where no order is present, the places are written in catalogue order.
-fn is_order(present: bool, places: &[u8; PLACES]) -> bool
-    requires { ⌜ length (now places) ≡ 21 ⌝ }
-    ensures { λ r. ⌜ r ≡ permutation (pick present (now (places .entry)) catalogueOrder) ⌝ }
+// Whether the places can be written so: where no order is present, they are in catalogue order.
+fn is_order(present: bool, order: &[u8; PLACES]) -> bool
+    requires { ⌜ length (now order) ≡ places ⌝ }
+    ensures { λ r. ⌜ r ≡ permutation (pick present (now (order .entry)) catalogueOrder) ⌝ }
 {
     if !present {
         return true;
     }
-    is_permutation(places)
+    is_permutation(order)
 }
 
-// Writes the record to the front of `out`, in its order.
+// Writes the record to the front of `out`, in its order. The parameters are laid in an array first, so that the count is known before a byte of
+// `out` is touched.
 pub fn write(r: TransportParameters, out: &mut [u8]) -> Counted
     ensures { λ w. ⌜ (countOutcome w, now (out .exit)) ≡ write r (now (out .entry)) ⌝ }
 {
