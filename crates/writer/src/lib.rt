@@ -124,18 +124,11 @@ fn put_address_value(
     ensures { λ r. ⌜ Wrote 61 (familyOut (ofV4 v4) ++ (familyOut (ofV6 v6) ++ (cid .len ∷ (cidBytes cid ++ token .bytes))))
         (now (out .entry)) r (now (out .exit)) ⌝ }
 {
-    put_families(v4, v6, out);
-    24 + put_cid_and_token(cid, token, &mut out[24..])
-}
-
-fn put_families(v4: SocketAddrV4, v6: SocketAddrV6, out: &mut [u8])
-    requires { ⌜ 24 ≤ length (now out) ⌝ }
-    ensures { λ r. ⌜ Wrote 24 (familyOut (ofV4 v4) ++ familyOut (ofV6 v6)) (now (out .entry)) 24 (now (out .exit)) ⌝ }
-{
     let ip4 = v4.ip;
     let ip6 = v6.ip;
     put_family(&ip4, v4.port, out);
     put_family(&ip6, v6.port, &mut out[6..]);
+    24 + put_cid_and_token(cid, token, &mut out[24..])
 }
 
 fn put_family(ip: &[u8], port: u16, out: &mut [u8])
