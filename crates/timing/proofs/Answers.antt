@@ -4,12 +4,12 @@ use mathlib.Core.Path.{_≡_, ap, sym, _∙_}
 use mathlib.Core.List.{List}
 use native.Mathlib.Numerals.{add-one}
 use native.Mathlib.Omega.{arith}
-use lib.ListN.{length, take, drop}
+use lib.ListN.{length, getD, take, drop, List·getD-eq-default}
 use lib.Dec.{ltb}
 use borrow.Author.Tests.{lt-ltb, le-ltb}
 use Rattle.refusal.specs.Outcome.{Outcome, accepted, refused, pick}
 use Rattle.refusal.specs.Number.{numberOf}
-use Rattle.refusal.specs.Answer.{answerOutcome, settledBy}
+use Rattle.refusal.specs.Answer.{answerOutcome, valueOr, settledBy}
 use Rattle.refusal.specs.declared.Refusal.{Refusal}
 use Rattle.refusal.specs.declared.Answer.{Answer}
 use Rattle.refusal.specs.declared.Answer.the-variants.{Accepted, Refused}
@@ -29,6 +29,12 @@ module _ (r d : TransportParameters) (a : Answer) (o : Outcome TransportParamete
 
   pub code-out : (f : Refusal) (n : ℕ) → a ≡ Refused f → n ≡ numberOf f → n ≡ code o
   code-out f n h g = g ∙ ap code (sym (ap (answerOutcome r) h) ∙ is-outcome)
+
+  pub number-at : (k : ℕ) → getD (r .numbers) k 0 ≡ getD (valueOr d o .numbers) k 0
+  number-at k = ap (λ (p : Outcome TransportParameters × TransportParameters). getD (p .1 .numbers) k 0) e
+
+  pub number-past : (k : ℕ) → length (r .numbers) ≡ 11 → 11 ≤ k → 0 ≡ getD (valueOr d o .numbers) k 0
+  number-past k l h = sym (List·getD-eq-default (r .numbers) 0 (omega arith)) ∙ number-at k
 
   -- what is no image
   pub written-in : (times : ℕ) (out : List ℕ) (w : ℕ × List ℕ) → a ≡ Accepted → w ≡ repeat times (again r) (0, out) → w ≡ writtenFrom o times out

@@ -1,12 +1,15 @@
 // The operations as another crate of Rattle calls them, exported for the benchmark (bench/): a record stays a record, where the C interface
 // makes its image. An answer is a count, or `REFUSED` and the number of the refusal.
 ghost use mathlib.Core.Path.{_≡_};
-ghost use Rattle.refusal.specs.Answer.{countOutcome};
+ghost use lib.ListN.{getD};
+ghost use Rattle.refusal.specs.Answer.{countOutcome, valueOr};
+ghost use Rattle.record.specs.Record.{defaultRecord};
 ghost use Rattle.reader.specs.Reading.{read};
 ghost use Rattle.writer.specs.Writing.{write};
 ghost use Rattle.tidy.specs.Tidying.{tidy};
 ghost use Rattle.image.specs.Image.{recordFrom};
 ghost use Rattle.timing.specs.Timing.{code, codeOf, lastOf, counted, again, repeat, readsOf, writtenFrom};
+use catalogue::NUMBERS;
 use record::TransportParameters;
 use refusal::Answer;
 use refusal::Counted;
@@ -77,6 +80,20 @@ pub extern "C" fn timing_reads(src: &[u8], size: usize, times: usize) -> u8
     last
 }
 
+// The number at a place of the record read, 0 from place 11 on; of a refused extension, of the default record.
+#[no_mangle]
+pub extern "C" fn timing_number(src: &[u8], place: usize) -> u64
+    ensures { λ r. ⌜ r ≡ getD (valueOr defaultRecord (read Side.Client (now (src .entry))) .numbers) place 0 ⌝ }
+{
+    let reading = reader::read(Side::Client, src);
+    if NUMBERS <= place {
+        return 0;
+    }
+    let r = reading.parameters;
+    let numbers = r.numbers;
+    numbers[place]
+}
+
 fn write_once(r: TransportParameters, out: &mut [u8]) -> usize
     ensures { λ n. ⌜ (n, now (out .exit)) ≡ counted (write r (now (out .entry))) ⌝ }
 {
@@ -106,6 +123,22 @@ pub extern "C" fn timing_write(record: &[u8], times: usize, out: &mut [u8]) -> u
         Answer::Accepted => {
             let r = imaged.parameters;
             write_times(r, times, out)
+        }
+        Answer::Refused(refusal) => REFUSED + (refusal.number() as usize),
+    }
+}
+
+// The same once.
+#[no_mangle]
+pub extern "C" fn timing_written(record: &[u8], out: &mut [u8]) -> usize
+    ensures { λ r. ⌜ (r, now (out .exit)) ≡ writtenFrom (recordFrom (now («record» .entry))) 1 (now (out .entry)) ⌝ }
+{
+    let imaged = image::record_from(record);
+    let answer = imaged.answer;
+    match answer {
+        Answer::Accepted => {
+            let r = imaged.parameters;
+            write_once(r, out)
         }
         Answer::Refused(refusal) => REFUSED + (refusal.number() as usize),
     }
