@@ -32,7 +32,7 @@ absent-requires-4 c κs = search needs
 
 returns : tie.Need-returns
 unfolding recordFrom idLimit recordOf noValues
-returns c = 
+returns c =
     rw (
       c .before .before .before .before .before .before .numbers-of .ensures,
       c .before .before .before .before .before .before .before .cid-limit .ensures,
