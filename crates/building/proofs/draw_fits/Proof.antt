@@ -5,12 +5,9 @@ use borrow.Author.Needs.{needs}
 use Rattle.building.proofs.draw_fits.Statement.{statement}
 use Rattle.building.proofs.draw_fits.Tie as tie
 
-and-requires : tie.Need-and-requires
-and-requires c κs = search needs
-
 returns : tie.Need-returns
 unfolding drawFits
 returns c = simp (← below-sixteen) (c .and .ensures)
 
 pub draw-fits-spec : {M : Type 1} → statement M
-draw-fits-spec = tie.close (tie.spec and-requires returns)
+draw-fits-spec = tie.close (tie.spec (λ c κs. search needs) returns)

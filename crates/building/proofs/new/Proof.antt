@@ -22,43 +22,19 @@ drawn c = holds _ _ (c .before .draw-fits .ensures) (c .if3 .left)
 ordered : (c : tie.Else4) → permutation (c .before .before .before .before .before .before .before .before .before .before .args .order .now) ≡ true
 ordered c = holds _ _ (c .before .is-permutation .ensures) (c .if4 .left)
 
-settings-fit-requires : tie.Need-settings-fit-requires
-settings-fit-requires c κs = search needs
-
-refuse-requires : tie.Need-refuse-requires
-refuse-requires c κs = search needs
-
 returns : tie.Need-returns
 returns c = refused-with _ _ _ (c .refuse .ensures) (for-setting _ _ _ _ _ (fails _ _ (c .before .before .settings-fit .ensures) (c .before .if1 .taken)))
-
-is-well-formed-requires : tie.Need-is-well-formed-requires
-is-well-formed-requires c κs = search needs
-
-refuse-requires-2 : tie.Need-refuse-requires-2
-refuse-requires-2 c κs = search needs
 
 returns-2 : tie.Need-returns-2
 returns-2 c =
     let t = c .before in
     refused-with _ _ _ (c .refuse2 .ensures) (for-cid _ _ _ _ _ (fit (t .before .before)) (fails _ _ (t .before .is-well-formed .ensures) (t .if2 .taken)))
 
-draw-fits-requires : tie.Need-draw-fits-requires
-draw-fits-requires c κs = search needs
-
-refuse-requires-3 : tie.Need-refuse-requires-3
-refuse-requires-3 c κs = search needs
-
 returns-3 : tie.Need-returns-3
 returns-3 c =
     let t = c .before in
     let e = t .before .before in
     refused-with _ _ _ (c .refuse3 .ensures) (for-draw _ _ _ _ _ (fit (e .before .before)) (formed e) (fails _ _ (t .before .draw-fits .ensures) (t .if3 .taken)))
-
-is-permutation-requires : tie.Need-is-permutation-requires
-is-permutation-requires c κs = search needs
-
-refuse-requires-4 : tie.Need-refuse-requires-4
-refuse-requires-4 c κs = search needs
 
 returns-4 : tie.Need-returns-4
 returns-4 c =
@@ -73,9 +49,6 @@ reserved-of-requires c κs = draw-facts _ _ (drawn (c .before .before))
 order-of-requires : tie.Need-order-of-requires
 order-of-requires c κs = order-length _ (ordered (c .before))
 
-record-of-requires : tie.Need-record-of-requires
-record-of-requires c κs = search needs
-
 returns-5 : tie.Need-returns-5
 returns-5 c =
     let o = c .before .before .before in
@@ -89,19 +62,19 @@ pub new-spec : {M : Type 1} → statement M
 new-spec =
     tie.close
     (tie.spec
-    settings-fit-requires
-    refuse-requires
+    (λ c κs. search needs)
+    (λ c κs. search needs)
     returns
-    is-well-formed-requires
-    refuse-requires-2
+    (λ c κs. search needs)
+    (λ c κs. search needs)
     returns-2
-    draw-fits-requires
-    refuse-requires-3
+    (λ c κs. search needs)
+    (λ c κs. search needs)
     returns-3
-    is-permutation-requires
-    refuse-requires-4
+    (λ c κs. search needs)
+    (λ c κs. search needs)
     returns-4
     reserved-of-requires
     order-of-requires
-    record-of-requires
+    (λ c κs. search needs)
     returns-5)

@@ -5,15 +5,9 @@ use borrow.Author.Needs.{needs}
 use Rattle.building.proofs.reserved_id.Statement.{statement}
 use Rattle.building.proofs.reserved_id.Tie as tie
 
-mul-result : tie.Need-mul-result
-mul-result c = search needs
-
-add-result : tie.Need-add-result
-add-result c = search needs
-
 returns : tie.Need-returns
 unfolding reservedId
 returns c = refl
 
 pub reserved-id-spec : {M : Type 1} → statement M
-reserved-id-spec = tie.close (tie.spec mul-result add-result returns)
+reserved-id-spec = tie.close (tie.spec (λ c. search needs) (λ c. search needs) returns)

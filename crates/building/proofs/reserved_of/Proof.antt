@@ -18,28 +18,10 @@ abbrev μ-loop : tie.MeasureT-loop
 loop-holds : tie.Need-loop-holds Inv-loop μ-loop
 loop-holds c = (omega arith, paste-zero (replicate 16 0) 0 (c .before .args .payload .now))
 
-shared-slice-read-bytes : tie.Need-shared-slice-read-bytes Inv-loop μ-loop
-shared-slice-read-bytes c = omega arith
-
-array-write-bytes : tie.Need-array-write-bytes Inv-loop μ-loop
-array-write-bytes c = omega arith
-
-add-i : tie.Need-add-i Inv-loop μ-loop
-add-i c = omega arith
-
-loop-less : tie.Need-loop-less Inv-loop μ-loop
-loop-less c = omega arith
-
 loop-again : tie.Need-loop-again Inv-loop μ-loop
 loop-again c =
     let a = c .before .before in
     (omega arith, copied (replicate 16 0) 0 _ _ (a .loop .i) (a .loop .i) (omega arith) (omega arith) (omega arith) (a .loop .inv .1))
-
-reserved-id-requires : tie.Need-reserved-id-requires Inv-loop μ-loop
-reserved-id-requires c κs = omega arith
-
-cast-t14 : tie.Need-cast-t14 Inv-loop μ-loop
-cast-t14 c = omega arith
 
 returns : tie.Need-returns Inv-loop μ-loop
 unfolding reservedFrom
@@ -55,11 +37,11 @@ reserved-of-spec =
     Inv-loop
     μ-loop
     loop-holds
-    shared-slice-read-bytes
-    array-write-bytes
-    add-i
-    loop-less
+    (λ c. omega arith)
+    (λ c. omega arith)
+    (λ c. omega arith)
+    (λ c. omega arith)
     loop-again
-    reserved-id-requires
-    cast-t14
+    (λ c κs. omega arith)
+    (λ c. omega arith)
     returns)

@@ -5,11 +5,8 @@ use Rattle.connection_id.specs.Answer.{madeOf}
 use Rattle.connection_id.proofs.refuse.Statement.{statement}
 use Rattle.connection_id.proofs.refuse.Tie as tie
 
-empty-requires : tie.Need-empty-requires
-empty-requires c κs = search needs
-
 returns : tie.Need-returns
 returns c = ap (madeOf _) (c .empty .ensures)
 
 pub refuse-spec : {M : Type 1} → statement M
-refuse-spec = tie.close (tie.spec empty-requires returns)
+refuse-spec = tie.close (tie.spec (λ c κs. search needs) returns)

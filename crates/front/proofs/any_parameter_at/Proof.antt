@@ -11,9 +11,6 @@ use borrow.Author.Needs.{needs}
 use Rattle.front.proofs.any_parameter_at.Statement.{statement}
 use Rattle.front.proofs.any_parameter_at.Tie as tie
 
-sub-decode : tie.Need-sub-decode
-sub-decode c = search needs
-
 -- the identifier, and the length behind it
 got : (c : tie.After-known-told) → let a = c .before .before .before .before .before .before .args in let q = c .before .id .given .0 in
     readNumber (lent (a .src .now) (a .at)) ≡ accepted (q .0, q .1 .0)
@@ -47,18 +44,6 @@ second c =
     let p = c .before .len .given .0 in
     second-within (a .src .now) (a .at) (q .0) (q .1 .0) (got d) (p .0) (p .1 .0) (got2 c) (first d .1)
 
-part-decode-start : tie.Need-part-decode-start
-part-decode-start c = search needs
-
-part-decode-end : tie.Need-part-decode-end
-part-decode-end c = search needs
-
-decode-requires : tie.Need-decode-requires
-decode-requires c κs = search needs
-
-enum-known-id : tie.Need-enum-known-id
-enum-known-id c = search needs
-
 enum-told : tie.Need-enum-told
 enum-told c = search needs
 
@@ -73,18 +58,6 @@ sub-decode-2 c = first c .1
 
 part-decode-start-2 : tie.Need-part-decode-start-2
 part-decode-start-2 c = let w = first c in search needs
-
-part-decode-end-2 : tie.Need-part-decode-end-2
-part-decode-end-2 c = search needs
-
-decode-requires-2 : tie.Need-decode-requires-2
-decode-requires-2 c κs = search needs
-
-enum-known-len : tie.Need-enum-known-len
-enum-known-len c = search needs
-
-enum-told-2 : tie.Need-enum-told-2
-enum-told-2 c = search needs
 
 returns-2 : tie.Need-returns-2
 returns-2 c = second-cut _ (c .before .before .before .before .before .before .before .before .before .before .args .at) _ _ (got (c .before .before .before .before)) _ (sym (c .before .before .decode2 .ensures) ∙ ap readOutcome (c .enum-told2 .given .1))
@@ -109,20 +82,20 @@ pub any-parameter-at-spec : {M : Type 1} → statement M
 any-parameter-at-spec =
     tie.close
     (tie.spec
-    sub-decode
-    part-decode-start
-    part-decode-end
-    decode-requires
-    enum-known-id
+    (λ c. search needs)
+    (λ c. search needs)
+    (λ c. search needs)
+    (λ c κs. search needs)
+    (λ c. search needs)
     enum-told
     returns
     add-b
     sub-decode-2
     part-decode-start-2
-    part-decode-end-2
-    decode-requires-2
-    enum-known-len
-    enum-told-2
+    (λ c. search needs)
+    (λ c κs. search needs)
+    (λ c. search needs)
+    (λ c. search needs)
     returns-2
     add-start
     sub-left

@@ -16,21 +16,9 @@ abbrev μ-loop : tie.MeasureT-loop
 loop-holds : tie.Need-loop-holds Inv-loop μ-loop
 loop-holds c = (omega arith, flags-all (c .args .s .now))
 
-mul-at : tie.Need-mul-at Inv-loop μ-loop
-mul-at c = omega arith
-
-array-read-at : tie.Need-array-read-at Inv-loop μ-loop
-array-read-at c = omega arith
-
 shared-slice-read-acc : tie.Need-shared-slice-read-acc Inv-loop μ-loop
 unfolding flagPlaces
 shared-slice-read-acc c = omega (arith, flag-place (c .before .before .before .args .s .now) 0 (c .before .before .loop .i) (c .before .loop-test .taken))
-
-add-i : tie.Need-add-i Inv-loop μ-loop
-add-i c = omega arith
-
-loop-less : tie.Need-loop-less Inv-loop μ-loop
-loop-less c = omega arith
 
 loop-again : tie.Need-loop-again Inv-loop μ-loop
 unfolding flagPlaces
@@ -48,10 +36,10 @@ flags-hold-spec =
     Inv-loop
     μ-loop
     loop-holds
-    mul-at
-    array-read-at
+    (λ c. omega arith)
+    (λ c. omega arith)
     shared-slice-read-acc
-    add-i
-    loop-less
+    (λ c. omega arith)
+    (λ c. omega arith)
     loop-again
     returns)

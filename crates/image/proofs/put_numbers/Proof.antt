@@ -20,30 +20,6 @@ abbrev μ-loop : tie.MeasureT-loop
 loop-holds : tie.Need-loop-holds Inv-loop μ-loop
 loop-holds c = (omega arith, c .before .pre .0, refl, refl)
 
-mul-bytes8 : tie.Need-mul-bytes8 Inv-loop μ-loop
-mul-bytes8 c = omega arith
-
-element-copy-out-bytes8 : tie.Need-element-copy-out-bytes8 Inv-loop μ-loop
-element-copy-out-bytes8 c = omega arith
-
-bytes8-requires : tie.Need-bytes8-requires Inv-loop μ-loop
-bytes8-requires c κs = tt
-
-slice-aggregate-put-bytes : tie.Need-slice-aggregate-put-bytes Inv-loop μ-loop
-slice-aggregate-put-bytes c = search needs
-
-mul-put-bytes : tie.Need-mul-put-bytes Inv-loop μ-loop
-mul-put-bytes c = omega arith
-
-put-bytes-requires : tie.Need-put-bytes-requires Inv-loop μ-loop
-put-bytes-requires c κs = search needs
-
-add-i : tie.Need-add-i Inv-loop μ-loop
-add-i c = omega arith
-
-loop-less : tie.Need-loop-less Inv-loop μ-loop
-loop-less c = omega arith
-
 loop-again : tie.Need-loop-again Inv-loop μ-loop
 loop-again c =
     let l = c .before .before .before .before .before .before .before .before .loop in
@@ -66,14 +42,14 @@ put-numbers-spec =
     Inv-loop
     μ-loop
     loop-holds
-    mul-bytes8
-    element-copy-out-bytes8
-    bytes8-requires
-    slice-aggregate-put-bytes
-    mul-put-bytes
-    put-bytes-requires
-    add-i
-    loop-less
+    (λ c. omega arith)
+    (λ c. omega arith)
+    (λ c κs. tt)
+    (λ c. search needs)
+    (λ c. omega arith)
+    (λ c κs. search needs)
+    (λ c. omega arith)
+    (λ c. omega arith)
     loop-again
     same-length
     returns)

@@ -7,15 +7,9 @@ use borrow.Author.Needs.{needs}
 use Rattle.index.proofs.id_length.Statement.{statement}
 use Rattle.index.proofs.id_length.Tie as tie
 
-is-marked-requires : tie.Need-is-marked-requires
-is-marked-requires c κs = search needs
-
 returns : tie.Need-returns
 unfolding idLen
 returns c = rw (sym (c .before .is-marked .ensures) ∙ not-true _ (c .if1 .taken))
-
-element-copy-out-start : tie.Need-element-copy-out-start
-element-copy-out-start c = search needs
 
 add-result : tie.Need-add-result
 add-result c = omega (arith, c .before .before .before .before .pre (sym (c .before .before .is-marked .ensures) ∙ not-false _ (c .before .if1 .left)))
@@ -31,9 +25,9 @@ pub id-length-spec : {M : Type 1} → statement M
 id-length-spec =
     tie.close
     (tie.spec
-    is-marked-requires
+    (λ c κs. search needs)
     returns
-    element-copy-out-start
+    (λ c. search needs)
     add-result
     shared-slice-read-result
     returns-2)

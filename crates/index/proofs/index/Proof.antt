@@ -14,24 +14,12 @@ scan-requires : tie.Need-scan-requires
 unfolding initialKept defaults
 scan-requires c κs = (refl, refl)
 
-enum-known-fault : tie.Need-enum-known-fault
-enum-known-fault c = search needs
-
-refuse-requires : tie.Need-refuse-requires
-refuse-requires c κs = search needs
-
-enum-known-marks : tie.Need-enum-known-marks
-enum-known-marks c = search needs
-
 is-allowed-requires : tie.Need-is-allowed-requires
 is-allowed-requires c κs =
     let a = c .before .before .before .before .before .before .before .before .args in
     let x = c .before .before .before .before .scan in
     let e = sym (ap (λ r. scanOutcome r (x .last .1 .0) (x .last .1 .1 .0)) (c .before .before .marks .given .1)) ∙ x .ensures in
     address-within (a .src .now) _ (scan-sound (a .src .now) _ e)
-
-refuse-requires-2 : tie.Need-refuse-requires-2
-refuse-requires-2 c κs = search needs
 
 returns : tie.Need-returns
 unfolding keptRules idLen
@@ -61,11 +49,11 @@ index-spec =
     tie.close
     (tie.spec
     scan-requires
-    enum-known-fault
-    refuse-requires
-    enum-known-marks
+    (λ c. search needs)
+    (λ c κs. search needs)
+    (λ c. search needs)
     is-allowed-requires
-    refuse-requires-2
+    (λ c κs. search needs)
     returns
     returns-2
     returns-3)

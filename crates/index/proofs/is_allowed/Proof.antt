@@ -7,38 +7,14 @@ use borrow.Author.Needs.{needs}
 use Rattle.index.proofs.is_allowed.Statement.{statement}
 use Rattle.index.proofs.is_allowed.Tie as tie
 
-numbers-of-requires : tie.Need-numbers-of-requires
-numbers-of-requires c κs = search needs
-
-element-copy-out-t16 : tie.Need-element-copy-out-t16
-element-copy-out-t16 c = search needs
-
-numbers-allowed-requires : tie.Need-numbers-allowed-requires
-numbers-allowed-requires c κs = search needs
-
 returns : tie.Need-returns
 unfolding keptRules all
 returns c =
     let e = sym (c .before .numbers-allowed .ensures) ∙ not-true _ (c .if1 .taken) in
     rw (← c .before .before .before .before .numbers-of .ensures, e)
 
-is-marked-requires : tie.Need-is-marked-requires
-is-marked-requires c κs = search needs
-
-is-marked-requires-2 : tie.Need-is-marked-requires-2
-is-marked-requires-2 c κs = search needs
-
-is-marked-requires-3 : tie.Need-is-marked-requires-3
-is-marked-requires-3 c κs = search needs
-
-is-marked-requires-4 : tie.Need-is-marked-requires-4
-is-marked-requires-4 c κs = search needs
-
 id-length-requires : tie.Need-id-length-requires
 id-length-requires c κs = c .before .before .before .before .before .before .before .before .before .before .pre
-
-presence-allowed-requires : tie.Need-presence-allowed-requires
-presence-allowed-requires c κs = search needs
 
 returns-2 : tie.Need-returns-2
 unfolding keptRules all
@@ -60,14 +36,14 @@ pub is-allowed-spec : {M : Type 1} → statement M
 is-allowed-spec =
     tie.close
     (tie.spec
-    numbers-of-requires
-    element-copy-out-t16
-    numbers-allowed-requires
+    (λ c κs. search needs)
+    (λ c. search needs)
+    (λ c κs. search needs)
     returns
-    is-marked-requires
-    is-marked-requires-2
-    is-marked-requires-3
-    is-marked-requires-4
+    (λ c κs. search needs)
+    (λ c κs. search needs)
+    (λ c κs. search needs)
+    (λ c κs. search needs)
     id-length-requires
-    presence-allowed-requires
+    (λ c κs. search needs)
     returns-2)

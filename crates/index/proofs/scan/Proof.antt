@@ -39,23 +39,11 @@ loop-holds : tie.Need-loop-holds Inv-loop μ-loop
 unfolding nothing
 loop-holds c = (omega arith, let e = c .before .pre in rw (e .0, e .1))
 
-parameter-at-requires : tie.Need-parameter-at-requires Inv-loop μ-loop
-parameter-at-requires c κs = search needs
-
-enum-known-id : tie.Need-enum-known-id Inv-loop μ-loop
-enum-known-id c = search needs
-
 enum-told : tie.Need-enum-told Inv-loop μ-loop
 enum-told c = search needs
 
 returns : tie.Need-returns Inv-loop μ-loop
 returns c = sym (cut-off (c .before .before .before .before .before .before .args .src .now) (c .before .before .before .before .loop .marks, c .before .before .before .before .loop .kept, c .before .before .before .before .loop .lens) (c .before .before .before .before .loop .at) (c .before .before .before .loop-test .taken) (sym (ap parameterOutcome (c .enum-told .given .1)) ∙ c .before .before .parameter-at .ensures)) ∙ c .before .before .before .before .loop .inv .1
-
-place-of-requires : tie.Need-place-of-requires Inv-loop μ-loop
-place-of-requires c κs = search needs
-
-is-marked-requires : tie.Need-is-marked-requires Inv-loop μ-loop
-is-marked-requires c κs = search needs
 
 sub-receive : tie.Need-sub-receive Inv-loop μ-loop
 sub-receive c = got (c .before .before .before) .1 .start
@@ -66,12 +54,6 @@ part-receive-start c = let w = got (c .before .before .before) .1 in search need
 part-receive-end : tie.Need-part-receive-end Inv-loop μ-loop
 part-receive-end c = let w = got (c .before .before .before) .1 in search needs
 
-receive-requires : tie.Need-receive-requires Inv-loop μ-loop
-receive-requires c κs = search needs
-
-enum-known-x : tie.Need-enum-known-x Inv-loop μ-loop
-enum-known-x c = search needs
-
 mul-kept : tie.Need-mul-kept Inv-loop μ-loop
 mul-kept c = omega (arith, c .before .before .before .before .before .before .if1 .taken)
 
@@ -81,17 +63,8 @@ element-write-kept c = c .before .before .before .before .before .before .if1 .t
 sub-low : tie.Need-sub-low Inv-loop μ-loop
 sub-low c = got (c .before .before .before .before .before .before .before .before) .1 .start
 
-low-requires : tie.Need-low-requires Inv-loop μ-loop
-low-requires c κs = search needs
-
 element-write-lens : tie.Need-element-write-lens Inv-loop μ-loop
 element-write-lens c = c .before .before .before .before .before .before .before .if1 .taken
-
-with-mark-requires : tie.Need-with-mark-requires Inv-loop μ-loop
-with-mark-requires c κs = search needs
-
-enum-known-fault : tie.Need-enum-known-fault Inv-loop μ-loop
-enum-known-fault c = search needs
 
 returns-2 : tie.Need-returns-2 Inv-loop μ-loop
 returns-2 c =
@@ -140,24 +113,24 @@ scan-spec =
     Inv-loop
     μ-loop
     loop-holds
-    parameter-at-requires
-    enum-known-id
+    (λ c κs. search needs)
+    (λ c. search needs)
     enum-told
     returns
-    place-of-requires
-    is-marked-requires
+    (λ c κs. search needs)
+    (λ c κs. search needs)
     sub-receive
     part-receive-start
     part-receive-end
-    receive-requires
-    enum-known-x
+    (λ c κs. search needs)
+    (λ c. search needs)
     mul-kept
     element-write-kept
     sub-low
-    low-requires
+    (λ c κs. search needs)
     element-write-lens
-    with-mark-requires
-    enum-known-fault
+    (λ c κs. search needs)
+    (λ c. search needs)
     returns-2
     loop-less
     loop-again

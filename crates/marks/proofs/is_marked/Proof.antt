@@ -12,15 +12,9 @@ use Rattle.marks.proofs.is_marked.Tie as tie
 returns : tie.Need-returns
 returns c = sym (marked-beyond _ _ (search needs) (c .if1 .taken))
 
-cast-k : tie.Need-cast-k
-cast-k c = search needs
-
-shr-result : tie.Need-shr-result
-shr-result c = search needs
-
 returns-2 : tie.Need-returns-2
 unfolding marked
 returns-2 c = ap (λ (b : ℕ). eqb b 1) (and-mask (c .before .args .marks / 2 ^ c .before .args .place) 1)
 
 pub is-marked-spec : {M : Type 1} → statement M
-is-marked-spec = tie.close (tie.spec returns cast-k shr-result returns-2)
+is-marked-spec = tie.close (tie.spec returns (λ c. search needs) (λ c. search needs) returns-2)

@@ -15,12 +15,6 @@ use Rattle.marks.proofs.with_mark.Tie as tie
 returns : tie.Need-returns
 returns c = simp (le-ltb _ _ (c .if1 .taken))
 
-cast-k : tie.Need-cast-k
-cast-k c = search needs
-
-shl-result : tie.Need-shl-result
-shl-result c = search needs
-
 returns-2 : tie.Need-returns-2
 unfolding mark
 returns-2 c =
@@ -28,4 +22,4 @@ returns-2 c =
     simp (lt-ltb _ _ (c .if1 .left)) (ap (λ (b : ℕ). bitOr (c .before .args .marks) b) (shl-exact 1 p 32 (lit< tt) (omega arith) ∙ one-mul (2 ^ p)))
 
 pub with-mark-spec : {M : Type 1} → statement M
-with-mark-spec = tie.close (tie.spec returns cast-k shl-result returns-2)
+with-mark-spec = tie.close (tie.spec returns (λ c. search needs) (λ c. search needs) returns-2)

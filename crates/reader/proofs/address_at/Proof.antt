@@ -7,29 +7,8 @@ use borrow.Author.Needs.{needs}
 use Rattle.reader.proofs.address_at.Statement.{statement}
 use Rattle.reader.proofs.address_at.Tie as tie
 
-element-copy-out-start : tie.Need-element-copy-out-start
-element-copy-out-start c = search needs
-
-element-copy-out-end : tie.Need-element-copy-out-end
-element-copy-out-end c = search needs
-
-cast-end : tie.Need-cast-end
-cast-end c = search needs
-
 add-end : tie.Need-add-end
 add-end c = omega (arith, c .before .before .before .pre .within)
-
-is-marked-requires : tie.Need-is-marked-requires
-is-marked-requires c κs = search needs
-
-sub-address-in : tie.Need-sub-address-in
-sub-address-in c = search needs
-
-part-address-in-start : tie.Need-part-address-in-start
-part-address-in-start c = search needs
-
-part-address-in-end : tie.Need-part-address-in-end
-part-address-in-end c = search needs
 
 address-in-requires : tie.Need-address-in-requires
 address-in-requires c κs = λ h. rw (lent _ _ _) (c .before .before .before .before .before .pre .fit (sym (c .before .is-marked .ensures) ∙ h))
@@ -42,13 +21,13 @@ pub address-at-spec : {M : Type 1} → statement M
 address-at-spec =
     tie.close
     (tie.spec
-    element-copy-out-start
-    element-copy-out-end
-    cast-end
+    (λ c. search needs)
+    (λ c. search needs)
+    (λ c. search needs)
     add-end
-    is-marked-requires
-    sub-address-in
-    part-address-in-start
-    part-address-in-end
+    (λ c κs. search needs)
+    (λ c. search needs)
+    (λ c. search needs)
+    (λ c. search needs)
     address-in-requires
     returns)

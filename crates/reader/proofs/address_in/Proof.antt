@@ -11,9 +11,6 @@ address-of-requires c κs = c .before .before .pre (c .if1 .taken)
 returns : tie.Need-returns
 returns c = c .address-of .ensures ∙ rw (c .before .if1 .taken)
 
-absent-requires : tie.Need-absent-requires
-absent-requires c κs = search needs
-
 returns-2 : tie.Need-returns-2
 returns-2 c = let h : c .before .before .before .args .present ≡ false = c .before .if1 .left in rw h (c .absent .ensures)
 
@@ -23,5 +20,5 @@ address-in-spec =
     (tie.spec
     address-of-requires
     returns
-    absent-requires
+    (λ c κs. search needs)
     returns-2)

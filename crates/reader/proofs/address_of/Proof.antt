@@ -14,50 +14,20 @@ cast-n c = let h = address-facts (c .before .before .args .v .now) (c .before .b
 add-end : tie.Need-add-end
 add-end c = let h = address-facts (c .before .before .args .v .now) (c .before .before .pre) in omega arith
 
-sub-v4-of : tie.Need-sub-v4-of
-sub-v4-of c = search needs
-
-part-v4-of-start : tie.Need-part-v4-of-start
-part-v4-of-start c = search needs
-
 part-v4-of-end : tie.Need-part-v4-of-end
 part-v4-of-end c = let h = address-facts (c .before .before .args .v .now) (c .before .before .pre) in search needs
-
-v4-of-requires : tie.Need-v4-of-requires
-v4-of-requires c κs = search needs
-
-sub-v6-of : tie.Need-sub-v6-of
-sub-v6-of c = search needs
-
-part-v6-of-start : tie.Need-part-v6-of-start
-part-v6-of-start c = search needs
 
 part-v6-of-end : tie.Need-part-v6-of-end
 part-v6-of-end c = let h = address-facts (c .before .before .before .before .args .v .now) (c .before .before .before .before .pre) in search needs
 
-v6-of-requires : tie.Need-v6-of-requires
-v6-of-requires c κs = search needs
-
-sub-new : tie.Need-sub-new
-sub-new c = search needs
-
-part-new-start : tie.Need-part-new-start
-part-new-start c = search needs
-
 part-new-end : tie.Need-part-new-end
 part-new-end c = let h = address-facts (c .before .before .before .before .before .before .args .v .now) (c .before .before .before .before .before .before .pre) in search needs
-
-new-requires : tie.Need-new-requires
-new-requires c κs = search needs
 
 sub-bytes16 : tie.Need-sub-bytes16
 sub-bytes16 c = let h = address-facts (c .before .before .before .before .before .before .before .before .before .args .v .now) (c .before .before .before .before .before .before .before .before .before .pre) in omega arith
 
 part-bytes16-start : tie.Need-part-bytes16-start
 part-bytes16-start c = let h = address-facts (c .before .before .before .before .before .before .before .before .before .args .v .now) (c .before .before .before .before .before .before .before .before .before .pre) in search needs
-
-part-bytes16-end : tie.Need-part-bytes16-end
-part-bytes16-end c = search needs
 
 bytes16-requires : tie.Need-bytes16-requires
 bytes16-requires c κs = token-part (c .before .before .before .before .before .before .before .before .before .before .args .v .now) (c .before .before .before .before .before .before .before .before .before .before .pre)
@@ -75,20 +45,20 @@ address-of-spec =
     shared-slice-read-n
     cast-n
     add-end
-    sub-v4-of
-    part-v4-of-start
+    (λ c. search needs)
+    (λ c. search needs)
     part-v4-of-end
-    v4-of-requires
-    sub-v6-of
-    part-v6-of-start
+    (λ c κs. search needs)
+    (λ c. search needs)
+    (λ c. search needs)
     part-v6-of-end
-    v6-of-requires
-    sub-new
-    part-new-start
+    (λ c κs. search needs)
+    (λ c. search needs)
+    (λ c. search needs)
     part-new-end
-    new-requires
+    (λ c κs. search needs)
     sub-bytes16
     part-bytes16-start
-    part-bytes16-end
+    (λ c. search needs)
     bytes16-requires
     returns)

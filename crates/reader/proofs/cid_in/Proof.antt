@@ -8,14 +8,8 @@ use borrow.Author.Needs.{needs}
 use Rattle.reader.proofs.cid_in.Statement.{statement}
 use Rattle.reader.proofs.cid_in.Tie as tie
 
-absent-requires : tie.Need-absent-requires
-absent-requires c κs = search needs
-
 returns : tie.Need-returns
 returns c = let h : c .before .before .before .args .present ≡ false = not-true _ (c .before .if1 .taken) in rw h (c .absent .ensures)
-
-new-requires : tie.Need-new-requires
-new-requires c κs = search needs
 
 returns-2 : tie.Need-returns-2
 unfolding cidIn
@@ -28,7 +22,7 @@ pub cid-in-spec : {M : Type 1} → statement M
 cid-in-spec =
     tie.close
     (tie.spec
-    absent-requires
+    (λ c κs. search needs)
     returns
-    new-requires
+    (λ c κs. search needs)
     returns-2)

@@ -8,18 +8,6 @@ use borrow.Author.Needs.{needs}
 use Rattle.reader.proofs.read.Statement.{statement}
 use Rattle.reader.proofs.read.Tie as tie
 
-index-requires : tie.Need-index-requires
-index-requires c κs = search needs
-
-enum-known-found : tie.Need-enum-known-found
-enum-known-found c = search needs
-
-refuse-requires : tie.Need-refuse-requires
-refuse-requires c κs = search needs
-
-enum-known-found-2 : tie.Need-enum-known-found-2
-enum-known-found-2 c = search needs
-
 record-of-requires : tie.Need-record-of-requires
 record-of-requires c κs =
     let a = c .before .before .before .before .before .before .before .before .before .args in
@@ -39,10 +27,10 @@ pub read-spec : {M : Type 1} → statement M
 read-spec =
     tie.close
     (tie.spec
-    index-requires
-    enum-known-found
-    refuse-requires
-    enum-known-found-2
+    (λ c κs. search needs)
+    (λ c. search needs)
+    (λ c κs. search needs)
+    (λ c. search needs)
     record-of-requires
     returns
     returns-2)

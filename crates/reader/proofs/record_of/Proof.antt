@@ -8,9 +8,6 @@ use borrow.Author.Needs.{needs}
 use Rattle.reader.proofs.record_of.Statement.{statement}
 use Rattle.reader.proofs.record_of.Tie as tie
 
-numbers-of-requires : tie.Need-numbers-of-requires
-numbers-of-requires c κs = search needs
-
 token-at-requires : tie.Need-token-at-requires
 unfolding kindAt kinds otherKinds
 token-at-requires c κs = let s = c .before .before in kept-at token (s .args .src .now) (s .args .marks) (s .args .kept .now) (s .args .lens .now) (s .pre) 12 refl token-no
@@ -30,36 +27,6 @@ cid-at-requires-2 c κs = (omega arith, let s = c .before .before .before .befor
 cid-at-requires-3 : tie.Need-cid-at-requires-3
 unfolding kindAt kinds otherKinds
 cid-at-requires-3 c κs = (omega arith, let s = c .before .before .before .before .before .before in kept-at cid (s .args .src .now) (s .args .marks) (s .args .kept .now) (s .args .lens .now) (s .pre) 18 refl cid-no)
-
-is-marked-requires : tie.Need-is-marked-requires
-is-marked-requires c κs = search needs
-
-is-marked-requires-2 : tie.Need-is-marked-requires-2
-is-marked-requires-2 c κs = search needs
-
-element-copy-out-optional-in : tie.Need-element-copy-out-optional-in
-element-copy-out-optional-in c = search needs
-
-optional-in-requires : tie.Need-optional-in-requires
-optional-in-requires c κs = search needs
-
-is-marked-requires-3 : tie.Need-is-marked-requires-3
-is-marked-requires-3 c κs = search needs
-
-is-marked-requires-4 : tie.Need-is-marked-requires-4
-is-marked-requires-4 c κs = search needs
-
-element-copy-out-optional-in-2 : tie.Need-element-copy-out-optional-in-2
-element-copy-out-optional-in-2 c = search needs
-
-optional-in-requires-2 : tie.Need-optional-in-requires-2
-optional-in-requires-2 c κs = search needs
-
-absent-requires : tie.Need-absent-requires
-absent-requires c κs = search needs
-
-absent-requires-2 : tie.Need-absent-requires-2
-absent-requires-2 c κs = search needs
 
 returns : tie.Need-returns
 unfolding recordFrom
@@ -85,20 +52,20 @@ pub record-of-spec : {M : Type 1} → statement M
 record-of-spec =
     tie.close
     (tie.spec
-    numbers-of-requires
+    (λ c κs. search needs)
     token-at-requires
     address-at-requires
     cid-at-requires
     cid-at-requires-2
     cid-at-requires-3
-    is-marked-requires
-    is-marked-requires-2
-    element-copy-out-optional-in
-    optional-in-requires
-    is-marked-requires-3
-    is-marked-requires-4
-    element-copy-out-optional-in-2
-    optional-in-requires-2
-    absent-requires
-    absent-requires-2
+    (λ c κs. search needs)
+    (λ c κs. search needs)
+    (λ c. search needs)
+    (λ c κs. search needs)
+    (λ c κs. search needs)
+    (λ c κs. search needs)
+    (λ c. search needs)
+    (λ c κs. search needs)
+    (λ c κs. search needs)
+    (λ c κs. search needs)
     returns)

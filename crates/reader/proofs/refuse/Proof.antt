@@ -4,12 +4,6 @@ use borrow.Author.Needs.{needs}
 use Rattle.reader.proofs.refuse.Statement.{statement}
 use Rattle.reader.proofs.refuse.Tie as tie
 
-refusal-requires : tie.Need-refusal-requires
-refusal-requires c κs = search needs
-
-default-requires : tie.Need-default-requires
-default-requires c κs = search needs
-
 returns : tie.Need-returns
 returns c = rw (c .default .ensures, c .before .refusal .ensures)
 
@@ -17,6 +11,6 @@ pub refuse-spec : {M : Type 1} → statement M
 refuse-spec =
     tie.close
     (tie.spec
-    refusal-requires
-    default-requires
+    (λ c κs. search needs)
+    (λ c κs. search needs)
     returns)

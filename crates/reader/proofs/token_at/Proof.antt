@@ -9,29 +9,8 @@ use borrow.Author.Needs.{needs}
 use Rattle.reader.proofs.token_at.Statement.{statement}
 use Rattle.reader.proofs.token_at.Tie as tie
 
-element-copy-out-start : tie.Need-element-copy-out-start
-element-copy-out-start c = search needs
-
-element-copy-out-end : tie.Need-element-copy-out-end
-element-copy-out-end c = search needs
-
-cast-end : tie.Need-cast-end
-cast-end c = search needs
-
 add-end : tie.Need-add-end
 add-end c = omega (arith, c .before .before .before .pre .within)
-
-is-marked-requires : tie.Need-is-marked-requires
-is-marked-requires c κs = search needs
-
-sub-token-in : tie.Need-sub-token-in
-sub-token-in c = search needs
-
-part-token-in-start : tie.Need-part-token-in-start
-part-token-in-start c = search needs
-
-part-token-in-end : tie.Need-part-token-in-end
-part-token-in-end c = search needs
 
 token-in-requires : tie.Need-token-in-requires
 unfolding fits
@@ -45,13 +24,13 @@ pub token-at-spec : {M : Type 1} → statement M
 token-at-spec =
     tie.close
     (tie.spec
-    element-copy-out-start
-    element-copy-out-end
-    cast-end
+    (λ c. search needs)
+    (λ c. search needs)
+    (λ c. search needs)
     add-end
-    is-marked-requires
-    sub-token-in
-    part-token-in-start
-    part-token-in-end
+    (λ c κs. search needs)
+    (λ c. search needs)
+    (λ c. search needs)
+    (λ c. search needs)
     token-in-requires
     returns)

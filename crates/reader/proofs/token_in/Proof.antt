@@ -7,9 +7,6 @@ use borrow.Author.Needs.{needs}
 use Rattle.reader.proofs.token_in.Statement.{statement}
 use Rattle.reader.proofs.token_in.Tie as tie
 
-absent-requires : tie.Need-absent-requires
-absent-requires c κs = search needs
-
 returns : tie.Need-returns
 returns c = let h : c .before .before .before .args .present ≡ false = not-true _ (c .before .if1 .taken) in rw h (c .absent .ensures)
 
@@ -24,7 +21,7 @@ pub token-in-spec : {M : Type 1} → statement M
 token-in-spec =
     tie.close
     (tie.spec
-    absent-requires
+    (λ c κs. search needs)
     returns
     bytes16-requires
     returns-2)

@@ -6,18 +6,9 @@ use borrow.Author.Needs.{needs}
 use Rattle.record.proofs.formed_cid.Statement.{statement}
 use Rattle.record.proofs.formed_cid.Tie as tie
 
-formed-id-requires : tie.Need-formed-id-requires
-formed-id-requires c κs = search needs
-
-or-requires : tie.Need-or-requires
-or-requires c κs = search needs
-
-and-requires : tie.Need-and-requires
-and-requires c κs = search needs
-
 returns : tie.Need-returns
 unfolding formedOptionalCid all
 returns c = simp and-true (cc)
 
 pub formed-cid-spec : {M : Type 1} → statement M
-formed-cid-spec = tie.close (tie.spec formed-id-requires or-requires and-requires returns)
+formed-cid-spec = tie.close (tie.spec (λ c κs. search needs) (λ c κs. search needs) (λ c κs. search needs) returns)

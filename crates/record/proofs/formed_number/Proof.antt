@@ -8,9 +8,6 @@ use Rattle.record.proofs.formed_number.Tie as tie
 enum-told : tie.Need-enum-told
 enum-told c = search needs
 
-enum-known-o : tie.Need-enum-known-o
-enum-known-o c = search needs
-
 returns : tie.Need-returns
 unfolding formedOptional
 returns c = rw (c .enum-told .given .1)
@@ -20,4 +17,4 @@ unfolding formedOptional
 returns-2 c = rw (c .before .before .o .given .1) (at-most (c .before .before .o .given .0 .0))
 
 pub formed-number-spec : {M : Type 1} → statement M
-formed-number-spec = tie.close (tie.spec enum-told enum-known-o returns returns-2)
+formed-number-spec = tie.close (tie.spec enum-told (λ c. search needs) returns returns-2)

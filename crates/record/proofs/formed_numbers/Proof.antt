@@ -20,18 +20,6 @@ abbrev μ-loop : tie.MeasureT-loop
 loop-holds : tie.Need-loop-holds Inv-loop μ-loop
 loop-holds c = (omega arith, c .pre, refl)
 
-mul-acc : tie.Need-mul-acc Inv-loop μ-loop
-mul-acc c = omega arith
-
-element-copy-out-acc : tie.Need-element-copy-out-acc Inv-loop μ-loop
-element-copy-out-acc c = omega arith
-
-add-i : tie.Need-add-i Inv-loop μ-loop
-add-i c = omega arith
-
-loop-less : tie.Need-loop-less Inv-loop μ-loop
-loop-less c = omega arith
-
 loop-again : tie.Need-loop-again Inv-loop μ-loop
 loop-again c =
     let l = c .before .before .loop in
@@ -47,4 +35,4 @@ returns c =
 pub formed-numbers-spec : {M : Type 1} → statement M
 formed-numbers-spec =
     tie.close
-    (tie.spec Inv-loop μ-loop loop-holds mul-acc element-copy-out-acc add-i loop-less loop-again returns)
+    (tie.spec Inv-loop μ-loop loop-holds (λ c. omega arith) (λ c. omega arith) (λ c. omega arith) (λ c. omega arith) loop-again returns)

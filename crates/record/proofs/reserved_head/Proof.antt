@@ -3,9 +3,6 @@ use borrow.Author.Needs.{needs}
 use Rattle.record.proofs.reserved_head.Statement.{statement}
 use Rattle.record.proofs.reserved_head.Tie as tie
 
-and-requires : tie.Need-and-requires
-and-requires c κs = search needs
-
 returns : tie.Need-returns
 returns c = rw (c .if1 .taken)
 
@@ -13,4 +10,4 @@ returns-2 : tie.Need-returns-2
 returns-2 c = rw (c .before .if1 .left) (c .and .ensures)
 
 pub reserved-head-spec : {M : Type 1} → statement M
-reserved-head-spec = tie.close (tie.spec and-requires returns returns-2)
+reserved-head-spec = tie.close (tie.spec (λ c κs. search needs) returns returns-2)

@@ -7,12 +7,6 @@ use Rattle.resumption.proofs.size_kept.Tie as tie
 enum-told : tie.Need-enum-told
 enum-told c = search needs
 
-enum-known-cached : tie.Need-enum-known-cached
-enum-known-cached c = search needs
-
-at-least-requires : tie.Need-at-least-requires
-at-least-requires c κs = search needs
-
 returns : tie.Need-returns
 returns c = from-none _ _ (c .enum-told .given .1)
 
@@ -21,4 +15,4 @@ returns-2 c = rw (c .before .before .cached .given .1) (c .at-least .ensures)
 
 pub size-kept-spec : {M : Type 1} → statement M
 size-kept-spec =
-    tie.close (tie.spec enum-told enum-known-cached at-least-requires returns returns-2)
+    tie.close (tie.spec enum-told (λ c. search needs) (λ c κs. search needs) returns returns-2)

@@ -5,23 +5,11 @@ use borrow.Author.Needs.{needs}
 use Rattle.resumption.proofs.validate_resumption_from.Statement.{statement}
 use Rattle.resumption.proofs.validate_resumption_from.Tie as tie
 
-is-well-formed-requires : tie.Need-is-well-formed-requires
-is-well-formed-requires c κs = search needs
-
-is-well-formed-requires-2 : tie.Need-is-well-formed-requires-2
-is-well-formed-requires-2 c κs = search needs
-
-and-requires : tie.Need-and-requires
-and-requires c κs = search needs
-
 returns : tie.Need-returns
 unfolding resume
 returns c =
     let h = not-true (c .before .and .result) (c .if1 .taken) in
     simp (← c .before .before .before .is-well-formed .ensures, ← c .before .before .is-well-formed2 .ensures, ← c .before .and .ensures, h)
-
-nothing-reduced-requires : tie.Need-nothing-reduced-requires
-nothing-reduced-requires c κs = search needs
 
 returns-2 : tie.Need-returns-2
 unfolding resume
@@ -43,10 +31,10 @@ pub validate-resumption-from-spec : {M : Type 1} → statement M
 validate-resumption-from-spec =
     tie.close
     (tie.spec
-    is-well-formed-requires
-    is-well-formed-requires-2
-    and-requires
+    (λ c κs. search needs)
+    (λ c κs. search needs)
+    (λ c κs. search needs)
     returns
-    nothing-reduced-requires
+    (λ c κs. search needs)
     returns-2
     returns-3)

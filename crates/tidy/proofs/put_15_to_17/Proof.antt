@@ -28,15 +28,6 @@ two c = put-behind _ _ _ _ _ (one (c .before .before .before .before) .within) (
 three : (c : tie.After-slice-known4) → Behind (c .before .before .before .before .before .before .before .before .before .before .before .before .before .before .args .at + c .before .before .before .before .before .before .before .before .before .before .put-at .result + c .before .before .before .before .before .before .put-at2 .result) (c .before .before .put-at3 .result) (back (c .before .before .before .before .before .before .before .before .before .before .before .before .before .before .args .at + c .before .before .before .before .before .before .before .before .before .before .put-at .result) (back (c .before .before .before .before .before .before .before .before .before .before .before .before .before .before .args .at) (c .before .before .before .before .before .before .before .before .before .before .before .before .before .before .args .out .now) (c .before .before .before .before .before .before .before .before .before .before .put-at .last .1 .1 .1 .1 .1 .1 .0)) (c .before .before .before .before .before .before .put-at2 .last .1 .1 .1 .1 .1 .1 .0)) (c .before .before .put-at3 .last .1 .1 .1 .1 .1 .1 .0)
 three c = put-behind _ _ _ _ _ (two (c .before .before .before .before) .within) (c .before .before .put-at3 .ensures)
 
-sub-put-at : tie.Need-sub-put-at
-sub-put-at c = search needs
-
-part-put-at-start : tie.Need-part-put-at-start
-part-put-at-start c = search needs
-
-part-put-at-end : tie.Need-part-put-at-end
-part-put-at-end c = search needs
-
 put-at-requires : tie.Need-put-at-requires
 unfolding kindAt kinds otherKinds
 put-at-requires c κs = (omega arith, c .before .before .before .pre .0 15 address-no)
@@ -49,9 +40,6 @@ sub-put-at-2 c = one c .within
 
 part-put-at-start-2 : tie.Need-part-put-at-start-2
 part-put-at-start-2 c = one c .within
-
-part-put-at-end-2 : tie.Need-part-put-at-end-2
-part-put-at-end-2 c = search needs
 
 put-at-requires-2 : tie.Need-put-at-requires-2
 unfolding kindAt kinds otherKinds
@@ -66,18 +54,12 @@ sub-put-at-3 c = two c .within
 part-put-at-start-3 : tie.Need-part-put-at-start-3
 part-put-at-start-3 c = two c .within
 
-part-put-at-end-3 : tie.Need-part-put-at-end-3
-part-put-at-end-3 c = search needs
-
 put-at-requires-3 : tie.Need-put-at-requires-3
 unfolding kindAt kinds otherKinds
 put-at-requires-3 c κs = (omega arith, c .before .before .before .before .before .before .before .before .before .before .before .pre .0 17 cid-no)
 
 add-result : tie.Need-add-result
 add-result c = fits-behind (three c) (two (c .before .before .before .before) .same ∙ one (c .before .before .before .before .before .before .before .before) .same) (room (c .before .before .before .before .before .before .before .before))
-
-same-length : tie.Need-same-length
-same-length c = search needs
 
 returns : tie.Need-returns
 unfolding laid idAt ids from15
@@ -89,20 +71,20 @@ pub put-15-to-17-spec : {M : Type 1} → statement M
 put-15-to-17-spec =
     tie.close
     (tie.spec
-    sub-put-at
-    part-put-at-start
-    part-put-at-end
+    (λ c. search needs)
+    (λ c. search needs)
+    (λ c. search needs)
     put-at-requires
     add-a
     sub-put-at-2
     part-put-at-start-2
-    part-put-at-end-2
+    (λ c. search needs)
     put-at-requires-2
     add-b
     sub-put-at-3
     part-put-at-start-3
-    part-put-at-end-3
+    (λ c. search needs)
     put-at-requires-3
     add-result
-    same-length
+    (λ c. search needs)
     returns)

@@ -13,9 +13,6 @@ use borrow.Author.Needs.{needs}
 use Rattle.tidy.proofs.put_all.Statement.{statement}
 use Rattle.tidy.proofs.put_all.Tie as tie
 
-put-numbers-requires : tie.Need-put-numbers-requires
-put-numbers-requires c κs = search needs
-
 put-12-to-14-requires : tie.Need-put-12-to-14-requires
 put-12-to-14-requires c κs = (c .before .before .before .before .before .before .before .pre, laid-within _ 1 0 _ _ [] _ [] (omega arith) (c .before .before .before .put-numbers .ensures) .0)
 
@@ -29,9 +26,6 @@ put-18-to-20-requires c κs =
     let a = laid-within _ 1 0 _ _ [] _ [] (omega arith) (c .before .before .before .before .before .before .before .before .before .before .before .put-numbers .ensures) .0 in
     let b = laid-within _ 12 _ _ _ [] _ [] a (c .before .before .before .before .before .before .before .put-12-to-14 .ensures) .0 in
     (c .before .before .before .before .before .before .before .before .before .before .before .before .before .before .before .pre, laid-within _ 15 _ _ _ [] _ [] b (c .before .before .before .put-15-to-17 .ensures) .0)
-
-same-length : tie.Need-same-length
-same-length c = search needs
 
 returns : tie.Need-returns
 unfolding pieces
@@ -49,9 +43,9 @@ pub put-all-spec : {M : Type 1} → statement M
 put-all-spec =
     tie.close
     (tie.spec
-    put-numbers-requires
+    (λ c κs. search needs)
     put-12-to-14-requires
     put-15-to-17-requires
     put-18-to-20-requires
-    same-length
+    (λ c. search needs)
     returns)

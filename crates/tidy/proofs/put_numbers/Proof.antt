@@ -28,50 +28,8 @@ loop-holds : tie.Need-loop-holds Inv-loop μ-loop
 unfolding each laid
 loop-holds c = (omega arith, omega arith, refl, refl)
 
-mul-put-number : tie.Need-mul-put-number Inv-loop μ-loop
-mul-put-number c = omega arith
-
-element-copy-out-put-number : tie.Need-element-copy-out-put-number Inv-loop μ-loop
-element-copy-out-put-number c = omega arith
-
-mul-put-number-2 : tie.Need-mul-put-number-2 Inv-loop μ-loop
-mul-put-number-2 c = omega arith
-
-array-read-put-number : tie.Need-array-read-put-number Inv-loop μ-loop
-array-read-put-number c = omega arith
-
-mul-put-number-3 : tie.Need-mul-put-number-3 Inv-loop μ-loop
-mul-put-number-3 c = omega arith
-
-array-read-put-number-2 : tie.Need-array-read-put-number-2 Inv-loop μ-loop
-array-read-put-number-2 c = omega arith
-
-mul-put-number-4 : tie.Need-mul-put-number-4 Inv-loop μ-loop
-mul-put-number-4 c = omega arith
-
-element-copy-out-put-number-2 : tie.Need-element-copy-out-put-number-2 Inv-loop μ-loop
-element-copy-out-put-number-2 c = omega arith
-
-sub-put-number : tie.Need-sub-put-number Inv-loop μ-loop
-sub-put-number c = omega arith
-
-part-put-number-start : tie.Need-part-put-number-start Inv-loop μ-loop
-part-put-number-start c = omega arith
-
-part-put-number-end : tie.Need-part-put-number-end Inv-loop μ-loop
-part-put-number-end c = omega arith
-
-put-number-requires : tie.Need-put-number-requires Inv-loop μ-loop
-put-number-requires c κs = search needs
-
 add-at : tie.Need-add-at Inv-loop μ-loop
 add-at c = omega (arith, kept c .within, kept c .same)
-
-add-i : tie.Need-add-i Inv-loop μ-loop
-add-i c = omega arith
-
-loop-less : tie.Need-loop-less Inv-loop μ-loop
-loop-less c = omega arith
 
 loop-again : tie.Need-loop-again Inv-loop μ-loop
 unfolding numberAt idAt ids defaults
@@ -94,21 +52,21 @@ put-numbers-spec =
     Inv-loop
     μ-loop
     loop-holds
-    mul-put-number
-    element-copy-out-put-number
-    mul-put-number-2
-    array-read-put-number
-    mul-put-number-3
-    array-read-put-number-2
-    mul-put-number-4
-    element-copy-out-put-number-2
-    sub-put-number
-    part-put-number-start
-    part-put-number-end
-    put-number-requires
+    (λ c. omega arith)
+    (λ c. omega arith)
+    (λ c. omega arith)
+    (λ c. omega arith)
+    (λ c. omega arith)
+    (λ c. omega arith)
+    (λ c. omega arith)
+    (λ c. omega arith)
+    (λ c. omega arith)
+    (λ c. omega arith)
+    (λ c. omega arith)
+    (λ c κs. search needs)
     add-at
-    add-i
-    loop-less
+    (λ c. omega arith)
+    (λ c. omega arith)
     loop-again
     same-length
     returns)

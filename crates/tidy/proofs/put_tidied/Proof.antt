@@ -17,23 +17,11 @@ use Rattle.tidy.proofs.put_tidied.Tie as tie
 put-there : (c : tie.After-put-all2) → let a = c .before .before .before .before .before .args in Wrote 314 (joined (pieces (a .src .now) (a .marks) (a .kept .now) (a .lens .now))) (replicate 314 0) (c .put-all2 .result) (c .put-all2 .last .1 .1 .1 .1 .0)
 put-there c = whole-laid _ _ (replicate 314 0) [] _ [] (c .before .before .before .before .before .pre .1) (omega arith) (c .put-all2 .ensures) .wrote
 
-put-all-requires : tie.Need-put-all-requires
-put-all-requires c κs = search needs
-
-same-length : tie.Need-same-length
-same-length c = search needs
-
 returns : tie.Need-returns
 returns c =
     let s = c .before .before .before .before .before .before .before in
     let w = whole-laid _ _ (s .args .out .now) [] _ [] (s .pre .1) (c .before .before .before .before .if1 .taken) (c .before .before .put-all .ensures) .wrote in
     stored-whole _ _ _ (s .args .out .now) _ (omega (arith, s .pre .1, c .before .before .before .before .if1 .taken)) w
-
-slice-aggregate-put-all : tie.Need-slice-aggregate-put-all
-slice-aggregate-put-all c = search needs
-
-put-all-requires-2 : tie.Need-put-all-requires-2
-put-all-requires-2 c κs = search needs
 
 returns-2 : tie.Need-returns-2
 returns-2 c = stored-short _ (c .before .before .before .before .before .before .before .args .out .now) (omega (arith, put-there (c .before .before) .count))
@@ -43,12 +31,6 @@ array-share-prefix-parts c = omega (arith, put-there (c .before .before) .few)
 
 slice-aggregate-put-bytes : tie.Need-slice-aggregate-put-bytes
 slice-aggregate-put-bytes c = let w = put-there (c .before .before .before) in w .count ∙ ap length (sym (whole-part _ _ _ _ _ w))
-
-put-bytes-requires : tie.Need-put-bytes-requires
-put-bytes-requires c κs = search needs
-
-same-length-2 : tie.Need-same-length-2
-same-length-2 c = search needs
 
 returns-3 : tie.Need-returns-3
 returns-3 c =
@@ -61,14 +43,14 @@ pub put-tidied-spec : {M : Type 1} → statement M
 put-tidied-spec =
     tie.close
     (tie.spec
-    put-all-requires
-    same-length
+    (λ c κs. search needs)
+    (λ c. search needs)
     returns
-    slice-aggregate-put-all
-    put-all-requires-2
+    (λ c. search needs)
+    (λ c κs. search needs)
     returns-2
     array-share-prefix-parts
     slice-aggregate-put-bytes
-    put-bytes-requires
-    same-length-2
+    (λ c κs. search needs)
+    (λ c. search needs)
     returns-3)

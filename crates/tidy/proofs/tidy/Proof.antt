@@ -8,18 +8,6 @@ use borrow.Author.Needs.{needs}
 use Rattle.tidy.proofs.tidy.Statement.{statement}
 use Rattle.tidy.proofs.tidy.Tie as tie
 
-index-requires : tie.Need-index-requires
-index-requires c κs = search needs
-
-enum-known-found : tie.Need-enum-known-found
-enum-known-found c = search needs
-
-refusal-requires : tie.Need-refusal-requires
-refusal-requires c κs = search needs
-
-enum-known-found-2 : tie.Need-enum-known-found-2
-enum-known-found-2 c = search needs
-
 put-tidied-requires : tie.Need-put-tidied-requires
 put-tidied-requires c κs =
     let a = c .before .before .before .before .before .before .before .before .before .before .before .args in
@@ -32,9 +20,6 @@ returns c =
     let a = c .before .before .before .before .before .before .before .before .before .args in
     not-read (a .side) (a .src .now) (a .out .now) _ _ (c .refusal .ensures) (stopped-is (indexed (a .side) (a .src .now)) _ _ (c .before .before .before .before .before .before .index .ensures) (c .before .before .found .given .1))
 
-same-length : tie.Need-same-length
-same-length c = search needs
-
 returns-2 : tie.Need-returns-2
 returns-2 c =
     let a = c .before .before .before .before .before .before .before .before .before .before .before .before .before .before .args in
@@ -46,11 +31,11 @@ pub tidy-spec : {M : Type 1} → statement M
 tidy-spec =
     tie.close
     (tie.spec
-    index-requires
-    enum-known-found
-    refusal-requires
-    enum-known-found-2
+    (λ c κs. search needs)
+    (λ c. search needs)
+    (λ c κs. search needs)
+    (λ c. search needs)
     put-tidied-requires
     returns
-    same-length
+    (λ c. search needs)
     returns-2)

@@ -6,21 +6,6 @@ use borrow.Author.Needs.{needs}
 use Rattle.timing.proofs.code_of.Statement.{statement}
 use Rattle.timing.proofs.code_of.Tie as tie
 
-enum-known-answer : tie.Need-enum-known-answer
-enum-known-answer c = search needs
-
-enum-known-answer-2 : tie.Need-enum-known-answer-2
-enum-known-answer-2 c = search needs
-
-number-requires : tie.Need-number-requires
-number-requires c κs = search needs
-
-cast-result : tie.Need-cast-result
-cast-result c = search needs
-
-add-result : tie.Need-add-result
-add-result c = search needs
-
 returns : tie.Need-returns
 returns c = sym (ap (λ a. codeOf (countOutcome a)) (c .before .answer .given .1))
 
@@ -31,10 +16,10 @@ pub code-of-spec : {M : Type 1} → statement M
 code-of-spec =
     tie.close
     (tie.spec
-    enum-known-answer
-    enum-known-answer-2
-    number-requires
-    cast-result
-    add-result
+    (λ c. search needs)
+    (λ c. search needs)
+    (λ c κs. search needs)
+    (λ c. search needs)
+    (λ c. search needs)
     returns
     returns-2)

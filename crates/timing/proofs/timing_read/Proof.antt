@@ -19,15 +19,6 @@ loop-holds : tie.Need-loop-holds Inv-loop μ-loop
 unfolding lastOf
 loop-holds c = (omega arith, refl)
 
-read-once-requires : tie.Need-read-once-requires Inv-loop μ-loop
-read-once-requires c κs = tt
-
-add-i : tie.Need-add-i Inv-loop μ-loop
-add-i c = omega arith
-
-loop-less : tie.Need-loop-less Inv-loop μ-loop
-loop-less c = omega arith
-
 loop-again : tie.Need-loop-again Inv-loop μ-loop
 loop-again c = (omega arith, last-more _ _ _ (c .read-once .ensures))
 
@@ -40,4 +31,4 @@ returns c =
 
 pub timing-read-spec : {M : Type 1} → statement M
 timing-read-spec =
-    tie.close (tie.spec Inv-loop μ-loop loop-holds read-once-requires add-i loop-less loop-again returns)
+    tie.close (tie.spec Inv-loop μ-loop loop-holds (λ c κs. tt) (λ c. omega arith) (λ c. omega arith) loop-again returns)

@@ -45,23 +45,8 @@ sub-if2 c = c .before .loop .inv .1
 add-end : tie.Need-add-end Inv-loop μ-loop
 add-end c = omega (arith, start c .1)
 
-sub-read-once : tie.Need-sub-read-once Inv-loop μ-loop
-sub-read-once c = omega arith
-
-part-read-once-start : tie.Need-part-read-once-start Inv-loop μ-loop
-part-read-once-start c = omega arith
-
 part-read-once-end : tie.Need-part-read-once-end Inv-loop μ-loop
 part-read-once-end c = start c .1
-
-read-once-requires : tie.Need-read-once-requires Inv-loop μ-loop
-read-once-requires c κs = tt
-
-add-i : tie.Need-add-i Inv-loop μ-loop
-add-i c = omega arith
-
-loop-less : tie.Need-loop-less Inv-loop μ-loop
-loop-less c = omega arith
 
 loop-again : tie.Need-loop-again Inv-loop μ-loop
 loop-again c =
@@ -83,11 +68,11 @@ timing-reads-spec =
     loop-holds
     sub-if2
     add-end
-    sub-read-once
-    part-read-once-start
+    (λ c. omega arith)
+    (λ c. omega arith)
     part-read-once-end
-    read-once-requires
-    add-i
-    loop-less
+    (λ c κs. tt)
+    (λ c. omega arith)
+    (λ c. omega arith)
     loop-again
     returns-2)

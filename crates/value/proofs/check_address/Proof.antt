@@ -9,38 +9,17 @@ use Rattle.value.proofs.check_address.Tie as tie
 returns : tie.Need-returns
 returns c = address-none (c .before .before .args .start) (c .before .before .args .v .now) (c .if1 .taken)
 
-shared-slice-read-n : tie.Need-shared-slice-read-n
-shared-slice-read-n c = search needs
-
 cast-n : tie.Need-cast-n
 cast-n c = omega (arith, c .shared-slice-known2 .given 24)
 
 returns-2 : tie.Need-returns-2
 returns-2 c = address-id (c .before .before .before .before .args .start) (c .before .before .before .before .args .v .now) (c .before .before .if1 .left) (c .if2 .taken)
 
-add-end : tie.Need-add-end
-add-end c = search needs
-
 returns-3 : tie.Need-returns-3
 returns-3 c = address-short (c .before .before .before .before .before .args .start) (c .before .before .before .before .before .args .v .now) (c .before .before .before .if1 .left) (c .before .if2 .left) (c .if3 .taken)
 
-sub-all-zero : tie.Need-sub-all-zero
-sub-all-zero c = search needs
-
-part-all-zero-start : tie.Need-part-all-zero-start
-part-all-zero-start c = search needs
-
-part-all-zero-end : tie.Need-part-all-zero-end
-part-all-zero-end c = search needs
-
-all-zero-requires : tie.Need-all-zero-requires
-all-zero-requires c κs = search needs
-
 returns-4 : tie.Need-returns-4
 returns-4 c = address-illegal (c .before .before .before .before .before .before .before .before .args .start) (c .before .before .before .before .before .before .before .before .args .v .now) (c .before .before .before .before .before .before .if1 .left) (c .before .before .before .before .if2 .left) (c .before .before .before .if3 .left) (sym (c .before .all-zero .ensures) ∙ c .if4 .taken)
-
-fits-if-requires : tie.Need-fits-if-requires
-fits-if-requires c κs = search needs
 
 returns-5 : tie.Need-returns-5
 returns-5 c = c .fits-if .ensures ∙ address-judged (c .before .before .before .before .before .before .before .before .before .args .start) (c .before .before .before .before .before .before .before .before .before .args .v .now) (c .before .before .before .before .before .before .before .if1 .left) (c .before .before .before .before .before .if2 .left) (c .before .before .before .before .if3 .left) (sym (c .before .before .all-zero .ensures) ∙ c .before .if4 .left)
@@ -50,15 +29,15 @@ check-address-spec =
     tie.close
     (tie.spec
     returns
-    shared-slice-read-n
+    (λ c. search needs)
     cast-n
     returns-2
-    add-end
+    (λ c. search needs)
     returns-3
-    sub-all-zero
-    part-all-zero-start
-    part-all-zero-end
-    all-zero-requires
+    (λ c. search needs)
+    (λ c. search needs)
+    (λ c. search needs)
+    (λ c κs. search needs)
     returns-4
-    fits-if-requires
+    (λ c κs. search needs)
     returns-5)

@@ -6,12 +6,6 @@ use borrow.Author.Needs.{needs}
 use Rattle.value.proofs.check_number.Statement.{statement}
 use Rattle.value.proofs.check_number.Tie as tie
 
-decode-requires : tie.Need-decode-requires
-decode-requires c κs = search needs
-
-enum-known-x : tie.Need-enum-known-x
-enum-known-x c = search needs
-
 enum-told : tie.Need-enum-told
 enum-told c = search needs
 
@@ -28,8 +22,8 @@ pub check-number-spec : {M : Type 1} → statement M
 check-number-spec =
     tie.close
     (tie.spec
-    decode-requires
-    enum-known-x
+    (λ c κs. search needs)
+    (λ c. search needs)
     enum-told
     returns
     returns-2

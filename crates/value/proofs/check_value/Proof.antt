@@ -7,44 +7,20 @@ use borrow.Author.Needs.{needs}
 use Rattle.value.proofs.check_value.Statement.{statement}
 use Rattle.value.proofs.check_value.Tie as tie
 
-is-marked-requires : tie.Need-is-marked-requires
-is-marked-requires c κs = search needs
-
-check-number-requires : tie.Need-check-number-requires
-check-number-requires c κs = search needs
-
 returns : tie.Need-returns
 returns c = let a = c .before .before .before .before .args in for-place (a .place) number (a .start) (a .v .now) _ (number-at (a .place) (sym (c .before .before .is-marked .ensures) ∙ c .before .if1 .taken)) (c .check-number .ensures)
-
-is-marked-requires-2 : tie.Need-is-marked-requires-2
-is-marked-requires-2 c κs = search needs
-
-fits-if-requires : tie.Need-fits-if-requires
-fits-if-requires c κs = search needs
 
 returns-2 : tie.Need-returns-2
 unfolding illegal fits keptOf
 returns-2 c = let a = c .before .before .before .before .before .before .args in for-place (a .place) cid (a .start) (a .v .now) _ (cid-at (a .place) (sym (c .before .before .before .before .is-marked .ensures) ∙ c .before .before .before .if1 .left) (sym (c .before .before .is-marked2 .ensures) ∙ c .before .if2 .taken)) (c .fits-if .ensures ∙ by-length (a .start) (a .v .now) cid _ refl refl refl)
 
-is-marked-requires-3 : tie.Need-is-marked-requires-3
-is-marked-requires-3 c κs = search needs
-
-fits-if-requires-2 : tie.Need-fits-if-requires-2
-fits-if-requires-2 c κs = search needs
-
 returns-3 : tie.Need-returns-3
 unfolding illegal fits keptOf
 returns-3 c = let a = c .before .before .before .before .before .before .before .before .args in for-place (a .place) flag (a .start) (a .v .now) _ (flag-at (a .place) (sym (c .before .before .before .before .before .before .is-marked .ensures) ∙ c .before .before .before .before .before .if1 .left) (sym (c .before .before .before .before .is-marked2 .ensures) ∙ c .before .before .before .if2 .left) (sym (c .before .before .is-marked3 .ensures) ∙ c .before .if3 .taken)) (c .fits-if2 .ensures ∙ by-length (a .start) (a .v .now) flag _ refl refl refl)
 
-fits-if-requires-3 : tie.Need-fits-if-requires-3
-fits-if-requires-3 c κs = search needs
-
 returns-4 : tie.Need-returns-4
 unfolding illegal fits keptOf
 returns-4 c = let a = c .before .before .before .before .before .before .before .before .before .args in for-place (a .place) token (a .start) (a .v .now) _ (token-at (a .place) (sym (c .before .before .before .before .before .before .before .is-marked .ensures) ∙ c .before .before .before .before .before .before .if1 .left) (sym (c .before .before .before .before .before .is-marked2 .ensures) ∙ c .before .before .before .before .if2 .left) (sym (c .before .before .before .is-marked3 .ensures) ∙ c .before .before .if3 .left) (c .before .if4 .taken)) (c .fits-if3 .ensures ∙ by-length (a .start) (a .v .now) token _ refl refl refl)
-
-check-address-requires : tie.Need-check-address-requires
-check-address-requires c κs = search needs
 
 returns-5 : tie.Need-returns-5
 returns-5 c = let a = c .before .before .before .before .before .before .before .before .before .before .args in for-place (a .place) address (a .start) (a .v .now) _ (address-at (a .place) (sym (c .before .before .before .before .before .before .before .before .is-marked .ensures) ∙ c .before .before .before .before .before .before .before .if1 .left) (sym (c .before .before .before .before .before .before .is-marked2 .ensures) ∙ c .before .before .before .before .before .if2 .left) (sym (c .before .before .before .before .is-marked3 .ensures) ∙ c .before .before .before .if3 .left) (c .before .before .if4 .left) (c .before .if5 .taken)) (c .check-address .ensures)
@@ -57,17 +33,17 @@ pub check-value-spec : {M : Type 1} → statement M
 check-value-spec =
     tie.close
     (tie.spec
-    is-marked-requires
-    check-number-requires
+    (λ c κs. search needs)
+    (λ c κs. search needs)
     returns
-    is-marked-requires-2
-    fits-if-requires
+    (λ c κs. search needs)
+    (λ c κs. search needs)
     returns-2
-    is-marked-requires-3
-    fits-if-requires-2
+    (λ c κs. search needs)
+    (λ c κs. search needs)
     returns-3
-    fits-if-requires-3
+    (λ c κs. search needs)
     returns-4
-    check-address-requires
+    (λ c κs. search needs)
     returns-5
     returns-6)

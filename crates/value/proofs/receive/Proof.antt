@@ -8,14 +8,8 @@ use borrow.Author.Needs.{needs}
 use Rattle.value.proofs.receive.Statement.{statement}
 use Rattle.value.proofs.receive.Tie as tie
 
-may-repeat-requires : tie.Need-may-repeat-requires
-may-repeat-requires c κs = search needs
-
 returns : tie.Need-returns
 returns c = second-copy (c .before .before .before .before .args .place) (c .before .before .before .before .args .start) (c .before .before .before .before .args .v .now) _ _ (c .before .before .if1 .taken) (c .before .may-repeat .ensures) (not-true _ (c .if2 .taken))
-
-check-value-requires : tie.Need-check-value-requires
-check-value-requires c κs = search needs
 
 returns-2 : tie.Need-returns-2
 returns-2 c =
@@ -30,7 +24,7 @@ pub receive-spec : {M : Type 1} → statement M
 receive-spec =
     tie.close
     (tie.spec
-    may-repeat-requires
+    (λ c κs. search needs)
     returns
-    check-value-requires
+    (λ c κs. search needs)
     returns-2)

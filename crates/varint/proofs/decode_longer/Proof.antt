@@ -11,20 +11,11 @@ use borrow.Author.Needs.{needs}
 use Rattle.varint.proofs.decode_longer.Statement.{statement}
 use Rattle.varint.proofs.decode_longer.Tie as tie
 
-shared-slice-read-high : tie.Need-shared-slice-read-high
-shared-slice-read-high c = search needs
-
 returns : tie.Need-returns
 returns c =
     let b = c .before .before .before .before in
     let e : 1 ≡ getD (b .args .src .now) 0 0 / 64 = omega (arith, b .pre, c .before .before .before .shared-slice-known .given 0) in
     read-short (b .args .src .now) 1 (b .pre .0) e (omega arith)
-
-shared-slice-read-word2 : tie.Need-shared-slice-read-word2
-shared-slice-read-word2 c = search needs
-
-word2-requires : tie.Need-word2-requires
-word2-requires c κs = search needs
 
 returns-2 : tie.Need-returns-2
 returns-2 c =
@@ -39,18 +30,6 @@ returns-3 c =
     let e : 2 ≡ getD (b .args .src .now) 0 0 / 64 = omega (arith, b .pre, c .before .before .before .before .shared-slice-known .given 0) in
     read-short (b .args .src .now) 2 (b .pre .0) e (omega arith)
 
-shared-slice-read-word4 : tie.Need-shared-slice-read-word4
-shared-slice-read-word4 c = search needs
-
-shared-slice-read-word4-2 : tie.Need-shared-slice-read-word4-2
-shared-slice-read-word4-2 c = search needs
-
-shared-slice-read-word4-3 : tie.Need-shared-slice-read-word4-3
-shared-slice-read-word4-3 c = search needs
-
-word4-requires : tie.Need-word4-requires
-word4-requires c κs = search needs
-
 returns-4 : tie.Need-returns-4
 returns-4 c =
     let b = c .before .before .before .before .before .before .before .before .before in
@@ -63,33 +42,6 @@ returns-5 c =
     let b = c .before .before .before .before .before in
     let e : 3 ≡ getD (b .args .src .now) 0 0 / 64 = omega (arith, b .pre, c .before .before .before .before .shared-slice-known .given 0) in
     read-short (b .args .src .now) 3 (b .pre .0) e (omega arith)
-
-shared-slice-read-word4-4 : tie.Need-shared-slice-read-word4-4
-shared-slice-read-word4-4 c = search needs
-
-shared-slice-read-word4-5 : tie.Need-shared-slice-read-word4-5
-shared-slice-read-word4-5 c = search needs
-
-shared-slice-read-word4-6 : tie.Need-shared-slice-read-word4-6
-shared-slice-read-word4-6 c = search needs
-
-word4-requires-2 : tie.Need-word4-requires-2
-word4-requires-2 c κs = search needs
-
-shared-slice-read-word4-7 : tie.Need-shared-slice-read-word4-7
-shared-slice-read-word4-7 c = search needs
-
-shared-slice-read-word4-8 : tie.Need-shared-slice-read-word4-8
-shared-slice-read-word4-8 c = search needs
-
-shared-slice-read-word4-9 : tie.Need-shared-slice-read-word4-9
-shared-slice-read-word4-9 c = search needs
-
-shared-slice-read-word4-10 : tie.Need-shared-slice-read-word4-10
-shared-slice-read-word4-10 c = search needs
-
-word4-requires-3 : tie.Need-word4-requires-3
-word4-requires-3 c κs = search needs
 
 returns-6 : tie.Need-returns-6
 returns-6 c =
@@ -106,25 +58,25 @@ pub decode-longer-spec : {M : Type 1} → statement M
 decode-longer-spec =
     tie.close
     (tie.spec
-    shared-slice-read-high
+    (λ c. search needs)
     returns
-    shared-slice-read-word2
-    word2-requires
+    (λ c. search needs)
+    (λ c κs. search needs)
     returns-2
     returns-3
-    shared-slice-read-word4
-    shared-slice-read-word4-2
-    shared-slice-read-word4-3
-    word4-requires
+    (λ c. search needs)
+    (λ c. search needs)
+    (λ c. search needs)
+    (λ c κs. search needs)
     returns-4
     returns-5
-    shared-slice-read-word4-4
-    shared-slice-read-word4-5
-    shared-slice-read-word4-6
-    word4-requires-2
-    shared-slice-read-word4-7
-    shared-slice-read-word4-8
-    shared-slice-read-word4-9
-    shared-slice-read-word4-10
-    word4-requires-3
+    (λ c. search needs)
+    (λ c. search needs)
+    (λ c. search needs)
+    (λ c κs. search needs)
+    (λ c. search needs)
+    (λ c. search needs)
+    (λ c. search needs)
+    (λ c. search needs)
+    (λ c κs. search needs)
     returns-6)

@@ -7,17 +7,11 @@ use Rattle.varint.proofs.put.Tie as tie
 put1-requires : tie.Need-put1-requires
 put1-requires c κs = (c .before .if1 .taken, sized _ 0 (tag-0 _ (c .before .if1 .taken)) (c .before .before .before .args .out .now) (c .before .before .before .pre .1))
 
-same-length : tie.Need-same-length
-same-length c = search needs
-
 returns : tie.Need-returns
 returns c = whole _ 0 (tag-0 _ (c .before .before .before .before .if1 .taken)) _ _ (c .before .before .put1 .ensures)
 
 put2-requires : tie.Need-put2-requires
 put2-requires c κs = (c .before .if2 .taken, sized _ 1 (tag-1 _ (c .before .before .if1 .left) (c .before .if2 .taken)) (c .before .before .before .before .args .out .now) (c .before .before .before .before .pre .1))
-
-same-length-2 : tie.Need-same-length-2
-same-length-2 c = search needs
 
 returns-2 : tie.Need-returns-2
 returns-2 c = whole _ 1 (tag-1 _ (c .before .before .before .before .before .if1 .left) (c .before .before .before .before .if2 .taken)) _ _ (c .before .before .put2 .ensures)
@@ -25,17 +19,11 @@ returns-2 c = whole _ 1 (tag-1 _ (c .before .before .before .before .before .if1
 put4-requires : tie.Need-put4-requires
 put4-requires c κs = (c .before .if3 .taken, sized _ 2 (tag-2 _ (c .before .before .if2 .left) (c .before .if3 .taken)) (c .before .before .before .before .before .args .out .now) (c .before .before .before .before .before .pre .1))
 
-same-length-3 : tie.Need-same-length-3
-same-length-3 c = search needs
-
 returns-3 : tie.Need-returns-3
 returns-3 c = whole _ 2 (tag-2 _ (c .before .before .before .before .before .if2 .left) (c .before .before .before .before .if3 .taken)) _ _ (c .before .before .put4 .ensures)
 
 put8-requires : tie.Need-put8-requires
 put8-requires c κs = (c .before .before .before .before .before .pre .0, sized _ 3 (tag-3 _ (c .before .if3 .left)) (c .before .before .before .before .before .args .out .now) (c .before .before .before .before .before .pre .1))
-
-same-length-4 : tie.Need-same-length-4
-same-length-4 c = search needs
 
 returns-4 : tie.Need-returns-4
 returns-4 c = whole _ 3 (tag-3 _ (c .before .before .before .before .if3 .left)) _ _ (c .before .before .put8 .ensures)
@@ -45,14 +33,14 @@ put-spec =
     tie.close
     (tie.spec
     put1-requires
-    same-length
+    (λ c. search needs)
     returns
     put2-requires
-    same-length-2
+    (λ c. search needs)
     returns-2
     put4-requires
-    same-length-3
+    (λ c. search needs)
     returns-3
     put8-requires
-    same-length-4
+    (λ c. search needs)
     returns-4)

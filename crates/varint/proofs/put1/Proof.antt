@@ -10,15 +10,6 @@ use borrow.Author.Needs.{needs}
 use Rattle.varint.proofs.put1.Statement.{statement}
 use Rattle.varint.proofs.put1.Tie as tie
 
-low-requires : tie.Need-low-requires
-low-requires c κs = search needs
-
-slice-write-out : tie.Need-slice-write-out
-slice-write-out c = search needs
-
-same-length : tie.Need-same-length
-same-length c = search needs
-
 returns : tie.Need-returns
 unfolding form
 returns c =
@@ -27,4 +18,4 @@ returns c =
     rw (c .low .ensures, mod-eq-of-lt h, e) (stored (c .before .before .args .x ∷ []) (c .before .before .args .out .now) (omega arith))
 
 pub put1-spec : {M : Type 1} → statement M
-put1-spec = tie.close (tie.spec low-requires slice-write-out same-length returns)
+put1-spec = tie.close (tie.spec (λ c κs. search needs) (λ c. search needs) (λ c. search needs) returns)

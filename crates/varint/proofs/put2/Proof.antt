@@ -9,20 +9,8 @@ use borrow.Author.Needs.{needs}
 use Rattle.varint.proofs.put2.Statement.{statement}
 use Rattle.varint.proofs.put2.Tie as tie
 
-low-requires : tie.Need-low-requires
-low-requires c κs = search needs
-
-slice-write-out : tie.Need-slice-write-out
-slice-write-out c = search needs
-
-low-requires-2 : tie.Need-low-requires-2
-low-requires-2 c κs = search needs
-
 slice-write-out-2 : tie.Need-slice-write-out-2
 slice-write-out-2 c = simp length-set (omega arith)
-
-same-length : tie.Need-same-length
-same-length c = search needs
 
 returns : tie.Need-returns
 unfolding form
@@ -35,4 +23,4 @@ returns c =
 pub put2-spec : {M : Type 1} → statement M
 put2-spec =
     tie.close
-    (tie.spec low-requires slice-write-out low-requires-2 slice-write-out-2 same-length returns)
+    (tie.spec (λ c κs. search needs) (λ c. search needs) (λ c κs. search needs) slice-write-out-2 (λ c. search needs) returns)

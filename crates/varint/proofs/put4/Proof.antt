@@ -9,32 +9,14 @@ use borrow.Author.Needs.{needs}
 use Rattle.varint.proofs.put4.Statement.{statement}
 use Rattle.varint.proofs.put4.Tie as tie
 
-low-requires : tie.Need-low-requires
-low-requires c κs = search needs
-
-slice-write-out : tie.Need-slice-write-out
-slice-write-out c = search needs
-
-low-requires-2 : tie.Need-low-requires-2
-low-requires-2 c κs = search needs
-
 slice-write-out-2 : tie.Need-slice-write-out-2
 slice-write-out-2 c = simp length-set (omega arith)
-
-low-requires-3 : tie.Need-low-requires-3
-low-requires-3 c κs = search needs
 
 slice-write-out-3 : tie.Need-slice-write-out-3
 slice-write-out-3 c = simp length-set (omega arith)
 
-low-requires-4 : tie.Need-low-requires-4
-low-requires-4 c κs = search needs
-
 slice-write-out-4 : tie.Need-slice-write-out-4
 slice-write-out-4 c = simp length-set (omega arith)
-
-same-length : tie.Need-same-length
-same-length c = search needs
 
 returns : tie.Need-returns
 unfolding form
@@ -48,13 +30,13 @@ pub put4-spec : {M : Type 1} → statement M
 put4-spec =
     tie.close
     (tie.spec
-    low-requires
-    slice-write-out
-    low-requires-2
+    (λ c κs. search needs)
+    (λ c. search needs)
+    (λ c κs. search needs)
     slice-write-out-2
-    low-requires-3
+    (λ c κs. search needs)
     slice-write-out-3
-    low-requires-4
+    (λ c κs. search needs)
     slice-write-out-4
-    same-length
+    (λ c. search needs)
     returns)

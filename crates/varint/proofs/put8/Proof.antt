@@ -9,56 +9,26 @@ use borrow.Author.Needs.{needs}
 use Rattle.varint.proofs.put8.Statement.{statement}
 use Rattle.varint.proofs.put8.Tie as tie
 
-low-requires : tie.Need-low-requires
-low-requires c κs = search needs
-
-slice-write-out : tie.Need-slice-write-out
-slice-write-out c = search needs
-
-low-requires-2 : tie.Need-low-requires-2
-low-requires-2 c κs = search needs
-
 slice-write-out-2 : tie.Need-slice-write-out-2
 slice-write-out-2 c = simp length-set (omega arith)
-
-low-requires-3 : tie.Need-low-requires-3
-low-requires-3 c κs = search needs
 
 slice-write-out-3 : tie.Need-slice-write-out-3
 slice-write-out-3 c = simp length-set (omega arith)
 
-low-requires-4 : tie.Need-low-requires-4
-low-requires-4 c κs = search needs
-
 slice-write-out-4 : tie.Need-slice-write-out-4
 slice-write-out-4 c = simp length-set (omega arith)
-
-low-requires-5 : tie.Need-low-requires-5
-low-requires-5 c κs = search needs
 
 slice-write-out-5 : tie.Need-slice-write-out-5
 slice-write-out-5 c = simp length-set (omega arith)
 
-low-requires-6 : tie.Need-low-requires-6
-low-requires-6 c κs = search needs
-
 slice-write-out-6 : tie.Need-slice-write-out-6
 slice-write-out-6 c = simp length-set (omega arith)
-
-low-requires-7 : tie.Need-low-requires-7
-low-requires-7 c κs = search needs
 
 slice-write-out-7 : tie.Need-slice-write-out-7
 slice-write-out-7 c = simp length-set (omega arith)
 
-low-requires-8 : tie.Need-low-requires-8
-low-requires-8 c κs = search needs
-
 slice-write-out-8 : tie.Need-slice-write-out-8
 slice-write-out-8 c = simp length-set (omega arith)
-
-same-length : tie.Need-same-length
-same-length c = search needs
 
 returns : tie.Need-returns
 unfolding form
@@ -72,21 +42,21 @@ pub put8-spec : {M : Type 1} → statement M
 put8-spec =
     tie.close
     (tie.spec
-    low-requires
-    slice-write-out
-    low-requires-2
+    (λ c κs. search needs)
+    (λ c. search needs)
+    (λ c κs. search needs)
     slice-write-out-2
-    low-requires-3
+    (λ c κs. search needs)
     slice-write-out-3
-    low-requires-4
+    (λ c κs. search needs)
     slice-write-out-4
-    low-requires-5
+    (λ c κs. search needs)
     slice-write-out-5
-    low-requires-6
+    (λ c κs. search needs)
     slice-write-out-6
-    low-requires-7
+    (λ c κs. search needs)
     slice-write-out-7
-    low-requires-8
+    (λ c κs. search needs)
     slice-write-out-8
-    same-length
+    (λ c. search needs)
     returns)

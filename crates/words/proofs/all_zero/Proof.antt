@@ -19,15 +19,6 @@ abbrev μ-loop : tie.MeasureT-loop
 loop-holds : tie.Need-loop-holds Inv-loop μ-loop
 loop-holds c = (omega arith, refl)
 
-shared-slice-read-acc : tie.Need-shared-slice-read-acc Inv-loop μ-loop
-shared-slice-read-acc c = omega arith
-
-add-i : tie.Need-add-i Inv-loop μ-loop
-add-i c = omega arith
-
-loop-less : tie.Need-loop-less Inv-loop μ-loop
-loop-less c = omega arith
-
 loop-again : tie.Need-loop-again Inv-loop μ-loop
 loop-again c =
     let l = c .before .before .loop in
@@ -42,4 +33,4 @@ returns c =
 
 pub all-zero-spec : {M : Type 1} → statement M
 all-zero-spec =
-    tie.close (tie.spec Inv-loop μ-loop loop-holds shared-slice-read-acc add-i loop-less loop-again returns)
+    tie.close (tie.spec Inv-loop μ-loop loop-holds (λ c. omega arith) (λ c. omega arith) (λ c. omega arith) loop-again returns)

@@ -9,23 +9,11 @@ use Rattle.connection_id.proofs.Answers.{write-ill, write-short, write-
 use Rattle.connection_id.proofs.ConnectionId.encode_long.Statement.{statement}
 use Rattle.connection_id.proofs.ConnectionId.encode_long.Tie as tie
 
-is-well-formed-requires : tie.Need-is-well-formed-requires
-is-well-formed-requires c κs = search needs
-
 returns : tie.Need-returns
 returns c = sym (write-ill _ _ (sym (c .before .is-well-formed .ensures) ∙ not-true _ (c .if1 .taken)))
 
-cast-n : tie.Need-cast-n
-cast-n c = search needs
-
-add-end : tie.Need-add-end
-add-end c = search needs
-
 returns-2 : tie.Need-returns-2
 returns-2 c = sym (write-short _ _ (sym (c .before .before .before .is-well-formed .ensures) ∙ not-false _ (c .before .before .if1 .left)) (c .if2 .taken))
-
-slice-write-out : tie.Need-slice-write-out
-slice-write-out c = search needs
 
 put-requires : tie.Need-put-requires
 put-requires c κs =
@@ -46,12 +34,12 @@ pub encode-long-spec : {M : Type 1} → statement M
 encode-long-spec =
     tie.close
     (tie.spec
-    is-well-formed-requires
+    (λ c κs. search needs)
     returns
-    cast-n
-    add-end
+    (λ c. search needs)
+    (λ c. search needs)
     returns-2
-    slice-write-out
+    (λ c. search needs)
     put-requires
     same-length
     returns-3)

@@ -4,17 +4,11 @@ use Rattle.connection_id.proofs.Answers.{refused-with, accepted-with, m
 use Rattle.connection_id.proofs.ConnectionId.new.Statement.{statement}
 use Rattle.connection_id.proofs.ConnectionId.new.Tie as tie
 
-refuse-requires : tie.Need-refuse-requires
-refuse-requires c κs = search needs
-
 returns : tie.Need-returns
 returns c = refused-with _ _ _ (c .refuse .ensures) (make-long _ (c .before .if1 .taken))
-
-cid-of-requires : tie.Need-cid-of-requires
-cid-of-requires c κs = search needs
 
 returns-2 : tie.Need-returns-2
 returns-2 c = accepted-with _ _ _ _ (c .cid-of .ensures) (make-whole _ (c .before .if1 .left))
 
 pub new-spec : {M : Type 1} → statement M
-new-spec = tie.close (tie.spec refuse-requires returns cid-of-requires returns-2)
+new-spec = tie.close (tie.spec (λ c κs. search needs) returns (λ c κs. search needs) returns-2)

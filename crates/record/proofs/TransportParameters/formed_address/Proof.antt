@@ -24,38 +24,14 @@ known c =
       token = search (needs, c .good .0 .1 .1 .1 .1 .1 .1 .1 .1 .1 .1 .1 .0 .1 .1 .1 .1 .1 .1 .0);
     }
 
-zero16-from-requires : tie.Need-zero16-from-requires
-zero16-from-requires c κs = search needs
-
-and-requires : tie.Need-and-requires
-and-requires c κs = search needs
-
-and-requires-2 : tie.Need-and-requires-2
-and-requires-2 c κs = search needs
-
-and-requires-3 : tie.Need-and-requires-3
-and-requires-3 c κs = search needs
-
 formed-id-requires : tie.Need-formed-id-requires
 formed-id-requires c κs = known (c .before .before .before .before .before .before .before .before .before .before) .id
-
-or-requires : tie.Need-or-requires
-or-requires c κs = search needs
-
-and-requires-4 : tie.Need-and-requires-4
-and-requires-4 c κs = search needs
 
 formed-v4-requires : tie.Need-formed-v4-requires
 formed-v4-requires c κs = known (c .before .before .before .before .before .before .before .before .before .before .before .before .before .before) .v4
 
 formed-v6-requires : tie.Need-formed-v6-requires
 formed-v6-requires c κs = known (c .before .before .before .before .before .before .before .before .before .before .before .before .before .before .before .before) .v6
-
-and-requires-5 : tie.Need-and-requires-5
-and-requires-5 c κs = search needs
-
-and-requires-6 : tie.Need-and-requires-6
-and-requires-6 c κs = search needs
 
 returns : tie.Need-returns
 returns c =
@@ -67,15 +43,15 @@ pub formed-address-spec : {M : Type 1} → statement M
 formed-address-spec =
     tie.close
     (tie.spec
-    zero16-from-requires
-    and-requires
-    and-requires-2
-    and-requires-3
+    (λ c κs. search needs)
+    (λ c κs. search needs)
+    (λ c κs. search needs)
+    (λ c κs. search needs)
     formed-id-requires
-    or-requires
-    and-requires-4
+    (λ c κs. search needs)
+    (λ c κs. search needs)
     formed-v4-requires
     formed-v6-requires
-    and-requires-5
-    and-requires-6
+    (λ c κs. search needs)
+    (λ c κs. search needs)
     returns)

@@ -12,12 +12,6 @@ use Rattle.varint.proofs.VarInt.decode.Tie as tie
 returns : tie.Need-returns
 returns c = read-none _ (c .if1 .taken)
 
-shared-slice-read-b : tie.Need-shared-slice-read-b
-shared-slice-read-b c = search needs
-
-wide-requires : tie.Need-wide-requires
-wide-requires c κs = search needs
-
 returns-2 : tie.Need-returns-2
 returns-2 c =
     let b = c .before .before .before .before .before in
@@ -26,13 +20,7 @@ returns-2 c =
     let e : 0 ≡ getD s 0 0 / 64 = omega arith in
     ap (λ v. accepted (v, 1)) (c .wide .ensures .0 ∙ omega arith) ∙ sym (read-whole s 0 h e h 0 refl)
 
-decode-longer-requires : tie.Need-decode-longer-requires
-decode-longer-requires c κs = search needs
-
-returns-3 : tie.Need-returns-3
-returns-3 c = search needs
-
 pub decode-spec : {M : Type 1} → statement M
 decode-spec =
     tie.close
-    (tie.spec returns shared-slice-read-b wide-requires returns-2 decode-longer-requires returns-3)
+    (tie.spec returns (λ c. search needs) (λ c κs. search needs) returns-2 (λ c κs. search needs) (λ c. search needs))

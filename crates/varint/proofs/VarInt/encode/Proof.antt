@@ -12,21 +12,12 @@ returns : tie.Need-returns
 unfolding writeNumber
 returns c = simp (le-ltb _ _ (c .if1 .taken))
 
-size-of-requires : tie.Need-size-of-requires
-size-of-requires c κs = search needs
-
 returns-2 : tie.Need-returns-2
 unfolding writeNumber store
 returns-2 c =
     let v : c .before .before .before .before .before .args .self .0 < 2 ^ 62 = omega arith in
     let h = rw (c .before .size-of .ensures) at (c .if2 .taken) in
     simp (lt-ltb _ _ v, lt-leb _ _ h)
-
-put-requires : tie.Need-put-requires
-put-requires c κs = search needs
-
-same-length : tie.Need-same-length
-same-length c = search needs
 
 returns-3 : tie.Need-returns-3
 unfolding writeNumber store
@@ -39,4 +30,4 @@ returns-3 c =
 
 pub encode-spec : {M : Type 1} → statement M
 encode-spec =
-    tie.close (tie.spec returns size-of-requires returns-2 put-requires same-length returns-3)
+    tie.close (tie.spec returns (λ c κs. search needs) returns-2 (λ c κs. search needs) (λ c. search needs) returns-3)
