@@ -1,7 +1,7 @@
 // Writing an extension: `TransportParameters::write` of quinn's transport_parameters.rs.
 ghost use mathlib.Core.Path.{_≡_};
 ghost use mathlib.Core.List.{[], _∷_, _++_};
-ghost use mathlib.Core.Bool.{true};
+ghost use mathlib.Core.Bool.{true, false};
 ghost use Prim.Native.Nat.{_+_, _<_, _≤_};
 ghost use lib.ListN.{length, take};
 ghost use Rattle.refusal.specs.Outcome.{pick, front, store};
@@ -14,7 +14,7 @@ ghost use Rattle.record.specs.Record.{isPresent, least, formedOptionalCid, form
 ghost use Rattle.order.specs.Order.{permutation, catalogueOrder};
 ghost use Rattle.wire.specs.Wire.{put, dueValue, dueNumber, numberAt};
 ghost use Rattle.wire.specs.Stored.{Wrote, each};
-ghost use Rattle.writer.specs.Writing.{parameterAt, concatOf, write};
+ghost use Rattle.writer.specs.Writing.{parameterAt, concatOf, maxExtension, write};
 ghost use Rattle.writer.specs.Laid.{laid, addressBytes, partAt, InOrder, bytesIn, Ready};
 use catalogue::DEFAULTS;
 use catalogue::DISABLE_ACTIVE_MIGRATION;
@@ -336,9 +336,20 @@ fn is_order(present: bool, order: &[u8; PLACES]) -> bool
     is_permutation(order)
 }
 
-// Writes the record to the front of `out`, in its order. The parameters are laid in an array first, so that the count is known before a byte of
-// `out` is touched.
-pub fn write(r: TransportParameters, out: &mut [u8]) -> Counted
+// A record without an order goes straight to `out`, which has room for any extension.
+fn write_straight(r: TransportParameters, out: &mut [u8]) -> Counted
+    requires { ⌜ (r .«write_order» .present ≡ false) × (maxExtension ≤ length (now out)) ⌝ }
+    ensures { λ w. ⌜ (countOutcome w, now (out .exit)) ≡ write r (now (out .entry)) ⌝ }
+{
+    if r.is_well_formed() {
+        let mut starts = [0usize; PLACES + 1];
+        return Counted::Count(put_catalogue(r, &mut starts, out));
+    }
+    Counted::Refused(Refusal::IllFormed)
+}
+
+// Any other is laid in an array first, so that the count is known before a byte of `out` is touched.
+fn write_parts(r: TransportParameters, out: &mut [u8]) -> Counted
     ensures { λ w. ⌜ (countOutcome w, now (out .exit)) ≡ write r (now (out .entry)) ⌝ }
 {
     if !r.is_well_formed() {
@@ -352,4 +363,16 @@ pub fn write(r: TransportParameters, out: &mut [u8]) -> Counted
     let mut parts = [0u8; MAX_EXTENSION];
     let n = put_catalogue(r, &mut starts, &mut parts);
     put_laid(n, r.write_order.present, &places, &starts, &parts, out)
+}
+
+// Writes the record to the front of `out`, in its order.
+pub fn write(r: TransportParameters, out: &mut [u8]) -> Counted
+    ensures { λ w. ⌜ (countOutcome w, now (out .exit)) ≡ write r (now (out .entry)) ⌝ }
+{
+    if !r.write_order.present {
+        if MAX_EXTENSION <= out.len() {
+            return write_straight(r, out);
+        }
+    }
+    write_parts(r, out)
 }
