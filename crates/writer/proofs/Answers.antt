@@ -46,18 +46,18 @@ module _ (r : TransportParameters) (w : wellFormed r ≡ true) (n : ℕ) (out m 
       go true q = f q
       go false q = g
 
-  pub due : bytesIn n (o .present) (o .places) st m ≡ extension r (orderOf o)
+  pub due : maxExtension + 16 ≤ length out → bytesIn n (o .present) (o .places) st m ≡ extension r (orderOf o)
   unfolding bytesIn
-  due =
-      by-cases (λ b os. bytesIn n b (o .places) st m ≡ extension r os) (λ q. ordered r (o .places) n out m st q h kept)
+  due b =
+      by-cases (λ b os. bytesIn n b (o .places) st m ≡ extension r os) (λ q. ordered r (o .places) n out m st q b kept)
       (whole-part maxExtension n _ out m (kept .wrote) ∙ in-catalogue-order r)
 
-  pub ready : Ready n (o .present) (o .places) st m
-  ready =
+  pub ready : maxExtension + 16 ≤ length out → Ready n (o .present) (o .places) st m
+  ready b =
       record {
-        count = any-order ∙ ap length (sym due);
+        count = any-order ∙ ap length (sym (due b));
         within = omega (arith, kept .wrote .few, wrote-length maxExtension n _ out m h (kept .wrote));
-        in-order = by-cases (λ b os. b ≡ true → InOrder (o .places) st m) (λ q _. in-order r (o .places) n out m st q h kept) (λ z. absurd (no z));
+        in-order = by-cases (λ b os. b ≡ true → InOrder (o .places) st m) (λ q _. in-order r (o .places) n out m st q b kept) (λ z. absurd (no z));
       }
     where
       no : false ≡ true → ⊥
@@ -65,9 +65,9 @@ module _ (r : TransportParameters) (w : wellFormed r ≡ true) (n : ℕ) (out m 
 
 -- storing it
 module _ (n : ℕ) (order starts parts out : List ℕ) where
-  pub laid-room : (present : Bool) → present ≡ true → Ready n present order starts parts → n ≤ length out → length (concatOf (partAt starts parts) order) ≤ length out
+  pub laid-count : (present : Bool) → present ≡ true → Ready n present order starts parts → n ≡ length (concatOf (partAt starts parts) order)
   unfolding bytesIn
-  laid-room present e d l = omega (arith, rw e at (d .count))
+  laid-count present e d = rw e at (d .count)
 
   pub laid-ordered : (present : Bool) (p k : ℕ) (m : List ℕ) → present ≡ true → Ready n present order starts parts → n ≤ length out
       → Wrote p (concatOf (partAt starts parts) order) out k m → _≡_ {A = Outcome ℕ × List ℕ} (accepted k, m) (store (bytesIn n present order starts parts) out)

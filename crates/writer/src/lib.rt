@@ -3,7 +3,7 @@ ghost use mathlib.Core.Path.{_≡_};
 ghost use mathlib.Core.List.{[], _∷_, _++_};
 ghost use mathlib.Core.Bool.{true, false};
 ghost use Prim.Native.Nat.{_+_, _<_, _≤_};
-ghost use lib.ListN.{length, take};
+ghost use lib.ListN.{length, take, drop};
 ghost use Rattle.refusal.specs.Outcome.{pick, front, store};
 ghost use Rattle.refusal.specs.Answer.{countOutcome};
 ghost use Rattle.varint.specs.Number.{bytesOf};
@@ -15,7 +15,7 @@ ghost use Rattle.order.specs.Order.{permutation, catalogueOrder};
 ghost use Rattle.wire.specs.Wire.{put, dueValue, dueNumber, numberAt};
 ghost use Rattle.wire.specs.Stored.{Wrote, each};
 ghost use Rattle.writer.specs.Writing.{parameterAt, concatOf, maxExtension, write};
-ghost use Rattle.writer.specs.Laid.{laid, addressBytes, partAt, InOrder, bytesIn, Ready};
+ghost use Rattle.writer.specs.Laid.{laid, addressBytes, partAt, InOrder, Fit, Front, bytesIn, Ready};
 use catalogue::DEFAULTS;
 use catalogue::DISABLE_ACTIVE_MIGRATION;
 use catalogue::GREASE_QUIC_BIT;
@@ -46,6 +46,9 @@ use refusal::Refusal;
 use wire::put_bytes;
 use wire::put_number;
 use wire::put_value;
+
+// So many bytes are copied at once.
+const BLOCK: usize = 16;
 
 // The longest value of a preferred address, in bytes.
 const MAX_ADDRESS: usize = 61;
@@ -280,14 +283,42 @@ fn put_catalogue(r: TransportParameters, starts: &mut [usize; PLACES + 1], out: 
     )
 }
 
-// Copies the parameters of `parts` to `out` in an order; that of place p stands from `starts[p]` to `starts[p + 1]`.
+// Stores the `len` bytes of `parts` from `from` on. Where sixteen more are still to come behind them, of the `room` there is, they are copied
+// sixteen at a time, over the end: no branch goes by how many of sixteen there are, which in an order of its own is guessed wrong.
+fn put_part(from: usize, len: usize, room: usize, parts: &[u8], out: &mut [u8])
+    requires { ⌜ Fit from len room (now parts) (now out) ⌝ }
+    ensures { λ r. ⌜ Front len room (drop from (now (parts .entry))) (now (out .entry)) (now (out .exit)) ⌝ }
+{
+    if room < len + BLOCK {
+        let to = from + len;
+        put_bytes(&parts[from..to], out);
+        return;
+    }
+    put_block(from, parts, out);
+    let mut i: usize = BLOCK;
+    while i < len {
+        put_block(from + i, parts, &mut out[i..]);
+        i += BLOCK;
+    }
+}
+
+fn put_block(from: usize, parts: &[u8], out: &mut [u8])
+    requires { ⌜ (from + 16 ≤ length (now parts)) × (16 ≤ length (now out)) ⌝ }
+    ensures { λ r. ⌜ now (out .exit) ≡ front (take 16 (drop from (now (parts .entry)))) (now (out .entry)) ⌝ }
+{
+    let to = from + BLOCK;
+    put_bytes(&parts[from..to], out);
+}
+
+// Copies the parameters of `parts`, `n` bytes, to `out` in an order; that of place p stands from `starts[p]` to `starts[p + 1]`.
 fn put_ordered(
+    n: usize,
     order: &[u8; PLACES],
     starts: &[usize; PLACES + 1],
     parts: &[u8],
     out: &mut [u8],
 ) -> usize
-    requires { ⌜ InOrder (now order) (now starts) (now parts) × (length (concatOf (partAt (now starts) (now parts)) (now order)) ≤ length (now out)) ⌝ }
+    requires { ⌜ InOrder (now order) (now starts) (now parts) × (n ≡ length (concatOf (partAt (now starts) (now parts)) (now order))) × (n ≤ length (now out)) ⌝ }
     ensures { λ r. ⌜ Wrote (length (now (out .entry))) (concatOf (partAt (now (starts .entry)) (now (parts .entry))) (now (order .entry)))
         (now (out .entry)) r (now (out .exit)) ⌝ }
 {
@@ -296,8 +327,9 @@ fn put_ordered(
     while k < PLACES {
         let p = wide(order[k]);
         let from = starts[p];
-        let to = starts[p + 1];
-        at += put_bytes(&parts[from..to], &mut out[at..]);
+        let len = starts[p + 1] - from;
+        put_part(from, len, n - at, parts, &mut out[at..]);
+        at += len;
         k += 1;
     }
     at
@@ -320,7 +352,7 @@ fn put_laid(
         return Counted::Refused(Refusal::BufferTooShort);
     }
     if present {
-        return Counted::Count(put_ordered(order, starts, parts, out));
+        return Counted::Count(put_ordered(n, order, starts, parts, out));
     }
     Counted::Count(put_bytes(&parts[..n], out))
 }
@@ -360,7 +392,7 @@ fn write_parts(r: TransportParameters, out: &mut [u8]) -> Counted
         return Counted::Refused(Refusal::InvalidOrder);
     }
     let mut starts = [0usize; PLACES + 1];
-    let mut parts = [0u8; MAX_EXTENSION];
+    let mut parts = [0u8; MAX_EXTENSION + BLOCK];
     let n = put_catalogue(r, &mut starts, &mut parts);
     put_laid(n, r.write_order.present, &places, &starts, &parts, out)
 }

@@ -3,7 +3,7 @@ use native.Mathlib.Omega.{arith}
 use mathlib.Core.Path.{_≡_, refl, ap, sym, _∙_}
 use mathlib.Core.Bool.{true}
 use mathlib.Core.List.{List}
-use Prim.Native.Nat.{ℕ}
+use Prim.Native.Nat.{ℕ, _+_}
 use lib.ListN.{replicate}
 use borrow.Author.Tests.{not-true, not-false}
 use Rattle.refusal.specs.Outcome.{store}
@@ -47,7 +47,7 @@ slice-aggregate-put-laid : tie.Need-slice-aggregate-put-laid
 slice-aggregate-put-laid c = search needs
 
 put-laid-requires : tie.Need-put-laid-requires
-put-laid-requires c κs = ready (c .before .before .before .before .before .before .before .before .before .before .before .before .before .before .before .args .r) (well (c .before .before .before .before .before .before .before .before .before .before .before .before)) _ (replicate maxExtension 0) _ _ (omega arith) (orderly (c .before .before .before .before .before .before .before .before)) (c .before .before .before .before .before .put-catalogue .ensures)
+put-laid-requires c κs = ready (c .before .before .before .before .before .before .before .before .before .before .before .before .before .before .before .args .r) (well (c .before .before .before .before .before .before .before .before .before .before .before .before)) _ (replicate (maxExtension + 16) 0) _ _ (omega arith) (orderly (c .before .before .before .before .before .before .before .before)) (c .before .before .before .before .before .put-catalogue .ensures) (omega arith)
 
 same-length : tie.Need-same-length
 same-length c = search needs
@@ -56,7 +56,7 @@ returns-3 : tie.Need-returns-3
 returns-3 c =
     let a = c .before .before .before .before .before .before .before .before .before .before .before .before .before .before .before .before .before .before .args in
     let p = orderly (c .before .before .before .before .before .before .before .before .before .before .before) in
-    let d = due (a .r) (well (c .before .before .before .before .before .before .before .before .before .before .before .before .before .before .before)) _ (replicate maxExtension 0) _ _ (omega arith) p (c .before .before .before .before .before .before .before .before .put-catalogue .ensures) in
+    let d = due (a .r) (well (c .before .before .before .before .before .before .before .before .before .before .before .before .before .before .before)) _ (replicate (maxExtension + 16) 0) _ _ (omega arith) p (c .before .before .before .before .before .before .before .before .put-catalogue .ensures) (omega arith) in
     c .before .before .put-laid .ensures ∙ ap (λ (bs : List ℕ). store bs (a .out .now)) d ∙ write-stored (a .r) (a .out .now) (well (c .before .before .before .before .before .before .before .before .before .before .before .before .before .before .before)) p
 
 pub write-parts-spec : {M : Type 1} → statement M
