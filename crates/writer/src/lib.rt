@@ -50,9 +50,6 @@ use wire::put_value;
 // So many bytes are copied at once.
 const BLOCK: usize = 16;
 
-// The longest value of a preferred address, in bytes.
-const MAX_ADDRESS: usize = 61;
-
 // The identifiers of the places that hold no plain number.
 const TOKEN_ID: u64 = IDS[STATELESS_RESET_TOKEN];
 
@@ -104,15 +101,19 @@ fn put_address(a: PreferredAddress, out: &mut [u8]) -> usize
     if !a.present {
         return 0;
     }
-    let mut value = [0u8; MAX_ADDRESS];
+    if out.len() < 43 + wide(a.connection_id.len) {
+        return 0;
+    }
     let n = put_address_value(
         a.address_v4,
         a.address_v6,
         a.connection_id,
         a.stateless_reset_token,
-        &mut value,
+        &mut out[2..],
     );
-    put_value(true, ADDRESS_ID, &value[..n], out)
+    out[0] = ADDRESS_ID as u8;
+    out[1] = n as u8;
+    n + 2
 }
 
 // Its value, for which there is room: an address and its port, of each family, the ID behind its length, and the token.
@@ -123,8 +124,8 @@ fn put_address_value(
     token: ResetToken,
     out: &mut [u8],
 ) -> usize
-    requires { ⌜ (formedCid cid ≡ true) × (61 ≤ length (now out)) ⌝ }
-    ensures { λ r. ⌜ Wrote 61 (familyOut (ofV4 v4) ++ (familyOut (ofV6 v6) ++ (cid .len ∷ (cidBytes cid ++ token .bytes))))
+    requires { ⌜ (formedCid cid ≡ true) × (41 + cid .len ≤ length (now out)) ⌝ }
+    ensures { λ r. ⌜ Wrote (41 + cid .len) (familyOut (ofV4 v4) ++ (familyOut (ofV6 v6) ++ (cid .len ∷ (cidBytes cid ++ token .bytes))))
         (now (out .entry)) r (now (out .exit)) ⌝ }
 {
     let ip4 = v4.ip;
@@ -144,8 +145,8 @@ fn put_family(ip: &[u8], port: u16, out: &mut [u8])
 }
 
 fn put_cid_and_token(cid: ConnectionId, token: ResetToken, out: &mut [u8]) -> usize
-    requires { ⌜ (formedCid cid ≡ true) × (37 ≤ length (now out)) ⌝ }
-    ensures { λ r. ⌜ Wrote 37 (cid .len ∷ (cidBytes cid ++ token .bytes)) (now (out .entry)) r (now (out .exit)) ⌝ }
+    requires { ⌜ (formedCid cid ≡ true) × (17 + cid .len ≤ length (now out)) ⌝ }
+    ensures { λ r. ⌜ Wrote (17 + cid .len) (cid .len ∷ (cidBytes cid ++ token .bytes)) (now (out .entry)) r (now (out .exit)) ⌝ }
 {
     let bytes = token.bytes;
     let Counted::Count(at) = cid.encode_long(out) else {
