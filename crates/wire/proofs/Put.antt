@@ -169,9 +169,6 @@ number-is-due id x due h k = rw (lt-ltb _ _ k, and-true due) (is-due id (numberB
 pub due-short : (id : ℕ) (v : List ℕ) → id < 64 → length v < 64 → dueValue true id v ≡ parameter id v
 due-short id v h k = is-due id v true (omega arith) (omega arith)
 
-pub value-short : (id : ℕ) (v : List ℕ) (due : Bool) → due ≡ true → id < 64 → length v < 64 → parameter id v ≡ dueValue due id v
-value-short id v due e h k = rw e (sym (due-short id v h k))
-
 module _ (id : ℕ) (v out : List ℕ) (h : id < 64) (k : length v < 64) where
   pub short-none : length out < length v + 2 → (0, out) ≡ put (parameter id v) out
   short-none l = rw (short-form id v h k) (put-none (id ∷ length v ∷ v) out (omega arith))

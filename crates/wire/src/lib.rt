@@ -24,13 +24,20 @@ pub fn put_bytes(bytes: &[u8], out: &mut [u8]) -> usize
     i
 }
 
-// A parameter whose value is copied. Most identifiers and lengths are one byte.
+// A parameter whose value is copied.
 pub fn put_value(due: bool, id: u64, v: &[u8], out: &mut [u8]) -> usize
     ensures { λ r. ⌜ (r, now (out .exit)) ≡ put (dueValue due id (now (v .entry))) (now (out .entry)) ⌝ }
 {
     if !due {
         return 0;
     }
+    put_due(id, v, out)
+}
+
+// One that is due; a function of its own, so that callers only test whether it is. Most identifiers and lengths are one byte.
+fn put_due(id: u64, v: &[u8], out: &mut [u8]) -> usize
+    ensures { λ r. ⌜ (r, now (out .exit)) ≡ put (dueValue true id (now (v .entry))) (now (out .entry)) ⌝ }
+{
     if id < 64 {
         if v.len() < 64 {
             return put_short(id, v, out);
@@ -100,7 +107,7 @@ pub fn put_number(due: bool, id: u64, x: u64, out: &mut [u8]) -> usize
     let Counted::Count(n) = VarInt(x).encode(&mut value) else {
         return 0;
     };
-    put_value(true, id, &value[..n], out)
+    put_due(id, &value[..n], out)
 }
 
 fn put_short_number(id: u64, x: u64, out: &mut [u8]) -> usize

@@ -14,7 +14,7 @@ use Rattle.order.specs.Order.{permutation, catalogueOrder}
 use Rattle.order.proofs.Orders.{in-catalogue}
 use Rattle.wire.specs.Wire.{put}
 use Rattle.wire.specs.Stored.{Wrote, each}
-use Rattle.wire.proofs.Stored.{wrote-length, whole-part, stored-whole}
+use Rattle.wire.proofs.Stored.{wrote-as, wrote-length, whole-part, stored-whole}
 use Rattle.wire.proofs.Put.{put-wrote}
 use Rattle.writer.specs.Writing.{parameterAt, concatOf, maxExtension, extension, orderOf, write}
 use Rattle.writer.specs.Laid.{laid, partAt, InOrder, bytesIn, Ready}
@@ -46,18 +46,18 @@ module _ (r : TransportParameters) (w : wellFormed r ≡ true) (n : ℕ) (out m 
       go true q = f q
       go false q = g
 
-  pub due : bytesIn n (o .present) (o .places) st m ≡ extension r (orderOf o)
+  pub due : maxExtension + 16 ≤ length out → bytesIn n (o .present) (o .places) st m ≡ extension r (orderOf o)
   unfolding bytesIn
-  due =
-      by-cases (λ b os. bytesIn n b (o .places) st m ≡ extension r os) (λ q. ordered r (o .places) n out m st q h kept)
+  due b =
+      by-cases (λ b os. bytesIn n b (o .places) st m ≡ extension r os) (λ q. ordered r (o .places) n out m st q b kept)
       (whole-part maxExtension n _ out m (kept .wrote) ∙ in-catalogue-order r)
 
-  pub ready : Ready n (o .present) (o .places) st m
-  ready =
+  pub ready : maxExtension + 16 ≤ length out → Ready n (o .present) (o .places) st m
+  ready b =
       record {
-        count = any-order ∙ ap length (sym due);
+        count = any-order ∙ ap length (sym (due b));
         within = omega (arith, kept .wrote .few, wrote-length maxExtension n _ out m h (kept .wrote));
-        in-order = by-cases (λ b os. b ≡ true → InOrder (o .places) st m) (λ q _. in-order r (o .places) n out m st q h kept) (λ z. absurd (no z));
+        in-order = by-cases (λ b os. b ≡ true → InOrder (o .places) st m) (λ q _. in-order r (o .places) n out m st q b kept) (λ z. absurd (no z));
       }
     where
       no : false ≡ true → ⊥
@@ -65,9 +65,9 @@ module _ (r : TransportParameters) (w : wellFormed r ≡ true) (n : ℕ) (out m 
 
 -- storing it
 module _ (n : ℕ) (order starts parts out : List ℕ) where
-  pub laid-room : (present : Bool) → present ≡ true → Ready n present order starts parts → n ≤ length out → length (concatOf (partAt starts parts) order) ≤ length out
+  pub laid-count : (present : Bool) → present ≡ true → Ready n present order starts parts → n ≡ length (concatOf (partAt starts parts) order)
   unfolding bytesIn
-  laid-room present e d l = omega (arith, rw e at (d .count))
+  laid-count present e d = rw e at (d .count)
 
   pub laid-ordered : (present : Bool) (p k : ℕ) (m : List ℕ) → present ≡ true → Ready n present order starts parts → n ≤ length out
       → Wrote p (concatOf (partAt starts parts) order) out k m → _≡_ {A = Outcome ℕ × List ℕ} (accepted k, m) (store (bytesIn n present order starts parts) out)
@@ -94,3 +94,12 @@ module _ (r : TransportParameters) (out : List ℕ) where
   pub write-stored : wellFormed r ≡ true → permutation (orderOf (r .«write_order»)) ≡ true → store (extension r (orderOf (r .«write_order»))) out ≡ write r out
   unfolding write
   write-stored h q = rw (h, q)
+
+-- without an order, straight to a buffer with room for any extension
+pub write-straight : (r : TransportParameters) (n : ℕ) (out m st : List ℕ) → wellFormed r ≡ true → r .«write_order» .present ≡ false → maxExtension ≤ length out
+    → (n, m, st) ≡ laid (each (parameterAt r) places) 1 0 out (replicate (places + 1) 0) → _≡_ {A = Outcome ℕ × List ℕ} (accepted n, m) (write r out)
+write-straight r n out m st w f h e =
+    let q : orderOf (r .«write_order») ≡ catalogueOrder = unfold orderOf in rw f in
+    let p : permutation (orderOf (r .«write_order»)) ≡ true = rw q in-catalogue in
+    let x = wrote-as maxExtension n _ (extension r (orderOf (r .«write_order»))) out m (in-catalogue-order r ∙ ap (extension r) (sym q)) (kept r w n out m st h p e .wrote) in
+    stored-whole maxExtension n _ out m (omega (arith, x .count, x .few)) x ∙ write-stored r out w p

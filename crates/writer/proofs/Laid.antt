@@ -54,6 +54,9 @@ place i h = omega arith
 pub fits-behind : {at n : ℕ} {o m : List ℕ} {l : ℕ} → Behind at n o m → length o ≡ l → l < 2 ^ 64 → Fits w64 (at + n)
 fits-behind {at} {n} {o} {m} h e k = record { fits = omega (arith, h .within, h .same) }
 
+pub fits-room : (a n l : ℕ) → a ≤ n → n ≤ l → l < 2 ^ 64 → Fits w64 a
+fits-room a n l h k i = omega arith
+
 -- three writers one after another, and a fourth
 module _ (s₁ s₂ s₃ : List ℕ) (k at n₁ n₂ n₃ : ℕ) (out y₁ y₂ y₃ st : List ℕ) (e₁ : (n₁, y₁) ≡ put s₁ (lent at out)) (e₂ : (n₂, y₂) ≡ put s₂ (lent (at + n₁) (back at out y₁)))
     (e₃ : (n₃, y₃) ≡ put s₃ (lent (at + n₁ + n₂) (back (at + n₁) (back at out y₁) y₂))) where

@@ -20,10 +20,11 @@ use Rattle.record.specs.declared.PreferredAddress.{PreferredAddress}
 use Rattle.record.specs.declared.ReservedTransportParameter.{ReservedTransportParameter}
 use Rattle.record.specs.Values.{Family, familyOut}
 use Rattle.record.specs.Record.{formedOptionalCid, formedAddress, formedReserved}
-use Rattle.wire.specs.Wire.{put}
+use Rattle.wire.specs.Wire.{put, dueValue}
 use Rattle.wire.specs.Stored.{Wrote}
-use Rattle.wire.proofs.Stored.{lent, back, length-front, lent-room, stored-whole, wrote-then}
-use Rattle.wire.proofs.Put.{put-wrote}
+use Rattle.wire.proofs.Stored.{lent, back, length-front, lent-room, stored-whole, wrote-few, wrote-then}
+use Rattle.wire.proofs.Put.{put-wrote, due-short, short-none, short-whole}
+use Rattle.writer.specs.Laid.{addressBytes}
 
 -- the first n of an array
 pub prefix : (n m : ℕ) (l : List ℕ) → m ≤ length l → n ≡ m → (n ≤ length l) × (n ≡ length (take n l))
@@ -60,15 +61,15 @@ unfolding familyOut
 family-wrote n f l m e q =
     record { count = rw (length-append (f .1) (bytesOf 2 (f .2))) (omega arith); few = omega arith; bytes = q }
 
-module _ (c : ConnectionId) (o : Outcome ℕ) (out m : List ℕ) (f : formedCid c ≡ true) (h : 21 ≤ length out) (e : (o, m) ≡ writeCid c out) where
-  long : length (cidWire c) ≤ 21
+module _ (c : ConnectionId) (o : Outcome ℕ) (out m : List ℕ) (f : formedCid c ≡ true) (h : 1 + c .len ≤ length out) (e : (o, m) ≡ writeCid c out) where
+  long : length (cidWire c) ≤ 1 + c .len
   long = let k = cid-facts c f in omega (arith, cid-length c k, k .within)
 
   accept : _≡_ {A = Outcome ℕ × List ℕ} (o, m) (accepted (length (cidWire c)), front (cidWire c) out)
   unfolding writeCid
-  accept = e ∙ rw f (sym (stored-whole 21 (length (cidWire c)) (cidWire c) out _ (omega (arith, long)) (record { count = refl; few = long; bytes = refl })))
+  accept = e ∙ rw f (sym (stored-whole (1 + c .len) (length (cidWire c)) (cidWire c) out _ (omega (arith, long)) (record { count = refl; few = long; bytes = refl })))
 
-  pub cid-encoded : (n : ℕ) → o ≡ accepted n → Wrote 21 (cidWire c) out n m
+  pub cid-encoded : (n : ℕ) → o ≡ accepted n → Wrote (1 + c .len) (cidWire c) out n m
   cid-encoded n g =
       let a : o ≡ accepted (length (cidWire c)) = ap (λ (p : Outcome ℕ × List ℕ). p .0) accept in
       let k : n ≡ length (cidWire c) = cc in
@@ -80,7 +81,29 @@ module _ (c : ConnectionId) (o : Outcome ℕ) (out m : List ℕ) (f : formedCid 
       let z : _≡_ {A = ℕ} 0 1 = cc in
       absurd (omega arith)
 
-pub token-behind : (n k : ℕ) (a t out m ys : List ℕ) → 37 ≤ length out → length t ≡ 16 → Wrote 21 a out n m → (k, ys) ≡ put t (lent n m)
-    → Wrote 37 (a ++ t) out (n + k) (back n m ys)
-token-behind n k a t out m ys h e w q =
-    wrote-then 21 16 n k a t out m ys h w (put-wrote 16 k t (lent n m) ys (omega arith) (lent-room 21 16 n a out m h w) q)
+pub token-behind : (n k len : ℕ) (a t out m ys : List ℕ) → 17 + len ≤ length out → length t ≡ 16 → Wrote (1 + len) a out n m → (k, ys) ≡ put t (lent n m)
+    → Wrote (17 + len) (a ++ t) out (n + k) (back n m ys)
+token-behind n k len a t out m ys h e w q =
+    let x = wrote-then (1 + len) 16 n k a t out m ys (omega arith) w (put-wrote 16 k t (lent n m) ys (omega arith) (lent-room (1 + len) 16 n a out m (omega arith) w) q) in
+    wrote-few (1 + len + 16) (17 + len) (n + k) (a ++ t) out (back n m ys) (omega (arith, x .few)) x
+
+module _ (a : PreferredAddress) (f : formedAddress a ≡ true) (p : a .present ≡ true) (h₄ : length (a .«address_v4» .ip) ≡ 4) (h₆ : length (a .«address_v6» .ip) ≡ 16)
+    (h : length (a .«stateless_reset_token» .bytes) ≡ 16) (out : List ℕ) where
+  pub address-length : (length (addressBytes a) ≡ 41 + a .«connection_id» .len) × (a .«connection_id» .len ≤ 20)
+  unfolding familyOut
+  address-length =
+      let k = cid-facts (a .«connection_id») (address-id a f) in
+      (simp length-append (omega (arith, cid-length (a .«connection_id») k)), k .within)
+
+  pub address-none : length out < 43 + a .«connection_id» .len → (0, out) ≡ put (dueValue (a .present) 13 (addressBytes a)) out
+  address-none l =
+      let e = address-length in
+      let k : length (addressBytes a) < 64 = omega arith in
+      rw (p, due-short 13 (addressBytes a) (omega arith) k) (short-none 13 (addressBytes a) out (omega arith) k (omega arith))
+
+  pub address-whole : (n : ℕ) (ys : List ℕ) → 43 + a .«connection_id» .len ≤ length out → Wrote (41 + a .«connection_id» .len) (addressBytes a) (lent 2 out) n ys
+      → (n + 2, set (set (back 2 out ys) 0 13) 1 n) ≡ put (dueValue (a .present) 13 (addressBytes a)) out
+  address-whole n ys l w =
+      let e = address-length in
+      let k : length (addressBytes a) < 64 = omega arith in
+      rw (p, due-short 13 (addressBytes a) (omega arith) k) (short-whole 13 (addressBytes a) out (omega arith) k n ys (omega arith) (w .count) (w .bytes))

@@ -33,11 +33,23 @@ addressBytes a =
 unfoldable pub partAt : List ℕ → List ℕ → ℕ → List ℕ
 partAt starts parts p = take (getD starts (p + 1) 0 - getD starts p 0) (drop (getD starts p 0) parts)
 
--- each place of an order has its part
+-- a part, and sixteen bytes behind it; and room for it
+pub record Fit (from len room : ℕ) (parts out : List ℕ) : Type 0 where
+  pub there : from + len + 16 ≤ length parts
+  pub small : len ≤ room
+  pub within : room ≤ length out
+
+-- bytes stand at the front of a buffer, and nothing changed behind the room for them and others
+pub record Front (len room : ℕ) (bs out out′ : List ℕ) : Type 0 where
+  pub bytes : take len out′ ≡ take len bs
+  pub rest : drop room out′ ≡ drop room out
+  pub same : length out′ ≡ length out
+
+-- each place of an order has its part, with sixteen bytes behind it
 pub record InOrder (order starts parts : List ℕ) : Type 0 where
   pub long : length order ≡ places
   pub each-place : (k : ℕ) → k < places → getD order k 0 < places
-  pub each-part : (p : ℕ) → p < places → (getD starts p 0 ≤ getD starts (p + 1) 0) × (getD starts (p + 1) 0 ≤ length parts)
+  pub each-part : (p : ℕ) → p < places → (getD starts p 0 ≤ getD starts (p + 1) 0) × (getD starts (p + 1) 0 + 16 ≤ length parts)
 
 -- the parts in the order, if one is present, or the first n bytes of them
 unfoldable pub bytesIn : ℕ → Bool → List ℕ → List ℕ → List ℕ → List ℕ

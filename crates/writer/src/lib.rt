@@ -1,9 +1,9 @@
 // Writing an extension: `TransportParameters::write` of quinn's transport_parameters.rs.
 ghost use mathlib.Core.Path.{_≡_};
 ghost use mathlib.Core.List.{[], _∷_, _++_};
-ghost use mathlib.Core.Bool.{true};
+ghost use mathlib.Core.Bool.{true, false};
 ghost use Prim.Native.Nat.{_+_, _<_, _≤_};
-ghost use lib.ListN.{length, take};
+ghost use lib.ListN.{length, take, drop};
 ghost use Rattle.refusal.specs.Outcome.{pick, front, store};
 ghost use Rattle.refusal.specs.Answer.{countOutcome};
 ghost use Rattle.varint.specs.Number.{bytesOf};
@@ -14,8 +14,8 @@ ghost use Rattle.record.specs.Record.{isPresent, least, formedOptionalCid, form
 ghost use Rattle.order.specs.Order.{permutation, catalogueOrder};
 ghost use Rattle.wire.specs.Wire.{put, dueValue, dueNumber, numberAt};
 ghost use Rattle.wire.specs.Stored.{Wrote, each};
-ghost use Rattle.writer.specs.Writing.{parameterAt, concatOf, write};
-ghost use Rattle.writer.specs.Laid.{laid, addressBytes, partAt, InOrder, bytesIn, Ready};
+ghost use Rattle.writer.specs.Writing.{parameterAt, concatOf, maxExtension, write};
+ghost use Rattle.writer.specs.Laid.{laid, addressBytes, partAt, InOrder, Fit, Front, bytesIn, Ready};
 use catalogue::DEFAULTS;
 use catalogue::DISABLE_ACTIVE_MIGRATION;
 use catalogue::GREASE_QUIC_BIT;
@@ -47,8 +47,8 @@ use wire::put_bytes;
 use wire::put_number;
 use wire::put_value;
 
-// The longest value of a preferred address, in bytes.
-const MAX_ADDRESS: usize = 61;
+// So many bytes are copied at once.
+const BLOCK: usize = 16;
 
 // The identifiers of the places that hold no plain number.
 const TOKEN_ID: u64 = IDS[STATELESS_RESET_TOKEN];
@@ -101,15 +101,19 @@ fn put_address(a: PreferredAddress, out: &mut [u8]) -> usize
     if !a.present {
         return 0;
     }
-    let mut value = [0u8; MAX_ADDRESS];
+    if out.len() < 43 + wide(a.connection_id.len) {
+        return 0;
+    }
     let n = put_address_value(
         a.address_v4,
         a.address_v6,
         a.connection_id,
         a.stateless_reset_token,
-        &mut value,
+        &mut out[2..],
     );
-    put_value(true, ADDRESS_ID, &value[..n], out)
+    out[0] = ADDRESS_ID as u8;
+    out[1] = n as u8;
+    n + 2
 }
 
 // Its value, for which there is room: an address and its port, of each family, the ID behind its length, and the token.
@@ -120,8 +124,8 @@ fn put_address_value(
     token: ResetToken,
     out: &mut [u8],
 ) -> usize
-    requires { ⌜ (formedCid cid ≡ true) × (61 ≤ length (now out)) ⌝ }
-    ensures { λ r. ⌜ Wrote 61 (familyOut (ofV4 v4) ++ (familyOut (ofV6 v6) ++ (cid .len ∷ (cidBytes cid ++ token .bytes))))
+    requires { ⌜ (formedCid cid ≡ true) × (41 + cid .len ≤ length (now out)) ⌝ }
+    ensures { λ r. ⌜ Wrote (41 + cid .len) (familyOut (ofV4 v4) ++ (familyOut (ofV6 v6) ++ (cid .len ∷ (cidBytes cid ++ token .bytes))))
         (now (out .entry)) r (now (out .exit)) ⌝ }
 {
     let ip4 = v4.ip;
@@ -141,8 +145,8 @@ fn put_family(ip: &[u8], port: u16, out: &mut [u8])
 }
 
 fn put_cid_and_token(cid: ConnectionId, token: ResetToken, out: &mut [u8]) -> usize
-    requires { ⌜ (formedCid cid ≡ true) × (37 ≤ length (now out)) ⌝ }
-    ensures { λ r. ⌜ Wrote 37 (cid .len ∷ (cidBytes cid ++ token .bytes)) (now (out .entry)) r (now (out .exit)) ⌝ }
+    requires { ⌜ (formedCid cid ≡ true) × (17 + cid .len ≤ length (now out)) ⌝ }
+    ensures { λ r. ⌜ Wrote (17 + cid .len) (cid .len ∷ (cidBytes cid ++ token .bytes)) (now (out .entry)) r (now (out .exit)) ⌝ }
 {
     let bytes = token.bytes;
     let Counted::Count(at) = cid.encode_long(out) else {
@@ -280,14 +284,42 @@ fn put_catalogue(r: TransportParameters, starts: &mut [usize; PLACES + 1], out: 
     )
 }
 
-// Copies the parameters of `parts` to `out` in an order; that of place p stands from `starts[p]` to `starts[p + 1]`.
+// Stores the `len` bytes of `parts` from `from` on. Where sixteen more are still to come behind them, of the `room` there is, they are copied
+// sixteen at a time, over the end: no branch goes by how many of sixteen there are, which in an order of its own is guessed wrong.
+fn put_part(from: usize, len: usize, room: usize, parts: &[u8], out: &mut [u8])
+    requires { ⌜ Fit from len room (now parts) (now out) ⌝ }
+    ensures { λ r. ⌜ Front len room (drop from (now (parts .entry))) (now (out .entry)) (now (out .exit)) ⌝ }
+{
+    if room < len + BLOCK {
+        let to = from + len;
+        put_bytes(&parts[from..to], out);
+        return;
+    }
+    put_block(from, parts, out);
+    let mut i: usize = BLOCK;
+    while i < len {
+        put_block(from + i, parts, &mut out[i..]);
+        i += BLOCK;
+    }
+}
+
+fn put_block(from: usize, parts: &[u8], out: &mut [u8])
+    requires { ⌜ (from + 16 ≤ length (now parts)) × (16 ≤ length (now out)) ⌝ }
+    ensures { λ r. ⌜ now (out .exit) ≡ front (take 16 (drop from (now (parts .entry)))) (now (out .entry)) ⌝ }
+{
+    let to = from + BLOCK;
+    put_bytes(&parts[from..to], out);
+}
+
+// Copies the parameters of `parts`, `n` bytes, to `out` in an order; that of place p stands from `starts[p]` to `starts[p + 1]`.
 fn put_ordered(
+    n: usize,
     order: &[u8; PLACES],
     starts: &[usize; PLACES + 1],
     parts: &[u8],
     out: &mut [u8],
 ) -> usize
-    requires { ⌜ InOrder (now order) (now starts) (now parts) × (length (concatOf (partAt (now starts) (now parts)) (now order)) ≤ length (now out)) ⌝ }
+    requires { ⌜ InOrder (now order) (now starts) (now parts) × (n ≡ length (concatOf (partAt (now starts) (now parts)) (now order))) × (n ≤ length (now out)) ⌝ }
     ensures { λ r. ⌜ Wrote (length (now (out .entry))) (concatOf (partAt (now (starts .entry)) (now (parts .entry))) (now (order .entry)))
         (now (out .entry)) r (now (out .exit)) ⌝ }
 {
@@ -296,8 +328,9 @@ fn put_ordered(
     while k < PLACES {
         let p = wide(order[k]);
         let from = starts[p];
-        let to = starts[p + 1];
-        at += put_bytes(&parts[from..to], &mut out[at..]);
+        let len = starts[p + 1] - from;
+        put_part(from, len, n - at, parts, &mut out[at..]);
+        at += len;
         k += 1;
     }
     at
@@ -320,7 +353,7 @@ fn put_laid(
         return Counted::Refused(Refusal::BufferTooShort);
     }
     if present {
-        return Counted::Count(put_ordered(order, starts, parts, out));
+        return Counted::Count(put_ordered(n, order, starts, parts, out));
     }
     Counted::Count(put_bytes(&parts[..n], out))
 }
@@ -336,9 +369,20 @@ fn is_order(present: bool, order: &[u8; PLACES]) -> bool
     is_permutation(order)
 }
 
-// Writes the record to the front of `out`, in its order. The parameters are laid in an array first, so that the count is known before a byte of
-// `out` is touched.
-pub fn write(r: TransportParameters, out: &mut [u8]) -> Counted
+// A record without an order goes straight to `out`, which has room for any extension.
+fn write_straight(r: TransportParameters, out: &mut [u8]) -> Counted
+    requires { ⌜ (r .«write_order» .present ≡ false) × (maxExtension ≤ length (now out)) ⌝ }
+    ensures { λ w. ⌜ (countOutcome w, now (out .exit)) ≡ write r (now (out .entry)) ⌝ }
+{
+    if r.is_well_formed() {
+        let mut starts = [0usize; PLACES + 1];
+        return Counted::Count(put_catalogue(r, &mut starts, out));
+    }
+    Counted::Refused(Refusal::IllFormed)
+}
+
+// Any other is laid in an array first, so that the count is known before a byte of `out` is touched.
+fn write_parts(r: TransportParameters, out: &mut [u8]) -> Counted
     ensures { λ w. ⌜ (countOutcome w, now (out .exit)) ≡ write r (now (out .entry)) ⌝ }
 {
     if !r.is_well_formed() {
@@ -349,7 +393,19 @@ pub fn write(r: TransportParameters, out: &mut [u8]) -> Counted
         return Counted::Refused(Refusal::InvalidOrder);
     }
     let mut starts = [0usize; PLACES + 1];
-    let mut parts = [0u8; MAX_EXTENSION];
+    let mut parts = [0u8; MAX_EXTENSION + BLOCK];
     let n = put_catalogue(r, &mut starts, &mut parts);
     put_laid(n, r.write_order.present, &places, &starts, &parts, out)
+}
+
+// Writes the record to the front of `out`, in its order.
+pub fn write(r: TransportParameters, out: &mut [u8]) -> Counted
+    ensures { λ w. ⌜ (countOutcome w, now (out .exit)) ≡ write r (now (out .entry)) ⌝ }
+{
+    if !r.write_order.present {
+        if MAX_EXTENSION <= out.len() {
+            return write_straight(r, out);
+        }
+    }
+    write_parts(r, out)
 }

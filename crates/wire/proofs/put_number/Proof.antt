@@ -45,11 +45,11 @@ returns-3 c =
 array-share-prefix-value : tie.Need-array-share-prefix-value
 array-share-prefix-value c = taken _ _ _ (kept c .count) (encoded-part _ _ _ _ (kept c)) .0
 
-slice-aggregate-put-value : tie.Need-slice-aggregate-put-value
-slice-aggregate-put-value c = taken _ _ _ (kept (c .before) .count) (encoded-part _ _ _ _ (kept (c .before))) .1
+slice-aggregate-put-due : tie.Need-slice-aggregate-put-due
+slice-aggregate-put-due c = taken _ _ _ (kept (c .before) .count) (encoded-part _ _ _ _ (kept (c .before))) .1
 
-put-value-requires : tie.Need-put-value-requires
-put-value-requires c κs = search needs
+put-due-requires : tie.Need-put-due-requires
+put-due-requires c κs = search needs
 
 same-length-2 : tie.Need-same-length-2
 same-length-2 c = search needs
@@ -57,7 +57,7 @@ same-length-2 c = search needs
 returns-4 : tie.Need-returns-4
 returns-4 c =
     let e = kept (c .before .before .before .before .before) in
-    rw (not-false (c .before .before .before .before .before .before .before .before .before .before .before .before .before .before .args .due) (c .before .before .before .before .before .before .before .before .before .before .before .before .if1 .left), number-low (c .before .before .before .before .before .before .before .before .before .before .before .before .before .before .args .id) (c .before .before .before .before .before .before .before .before .before .before .before .before .before .before .args .x) (e .low), ← encoded-part _ _ _ _ e) (c .before .before .put-value .ensures)
+    rw (not-false (c .before .before .before .before .before .before .before .before .before .before .before .before .before .before .args .due) (c .before .before .before .before .before .before .before .before .before .before .before .before .if1 .left), number-low (c .before .before .before .before .before .before .before .before .before .before .before .before .before .before .args .id) (c .before .before .before .before .before .before .before .before .before .before .before .before .before .before .args .x) (e .low), ← encoded-part _ _ _ _ e) (c .before .before .put-due .ensures)
 
 pub put-number-spec : {M : Type 1} → statement M
 put-number-spec =
@@ -73,7 +73,7 @@ put-number-spec =
     enum-told
     returns-3
     array-share-prefix-value
-    slice-aggregate-put-value
-    put-value-requires
+    slice-aggregate-put-due
+    put-due-requires
     same-length-2
     returns-4)

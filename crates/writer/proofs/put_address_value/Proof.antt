@@ -1,10 +1,11 @@
 -- `writer::put_address_value` meets its contract. Assumes nothing.
 use native.Mathlib.Omega.{arith}
 use native.Mathlib.Nat.{le-refl}
+use Prim.Native.Nat.{_+_}
 use mathlib.Core.Path.{_≡_}
 use lib.ListN.{length}
 use Rattle.record.specs.Values.{ofV4, ofV6}
-use Rattle.wire.proofs.Stored.{behind, wrote-three}
+use Rattle.wire.proofs.Stored.{behind, wrote-few, wrote-three}
 use Rattle.writer.proofs.Parts.{family-wrote}
 use borrow.Author.Needs.{needs}
 use Rattle.writer.proofs.put_address_value.Statement.{statement}
@@ -57,8 +58,9 @@ returns : tie.Need-returns
 returns c =
     let s = c .before .before .before .before .before .before .before .before .before .before .before .before .before .before .before .before .before in
     let a = s .args in
-    wrote-three 6 18 37 6 18 _ _ _ _ (a .out .now) _ _ _ (s .pre .1) (family-wrote 4 (ofV4 (a .v4)) _ _ (known s .0) (c .before .before .before .before .before .before .before .before .before .before .before .put-family .ensures))
-    (family-wrote 16 (ofV6 (a .v6)) _ _ (known s .1) (c .before .before .before .before .before .before .put-family2 .ensures)) (c .before .before .put-cid-and-token .ensures)
+    let w = wrote-three 6 18 (17 + a .cid .len) 6 18 _ _ _ _ (a .out .now) _ _ _ (omega (arith, s .pre .1)) (family-wrote 4 (ofV4 (a .v4)) _ _ (known s .0) (c .before .before .before .before .before .before .before .before .before .before .before .put-family .ensures))
+    (family-wrote 16 (ofV6 (a .v6)) _ _ (known s .1) (c .before .before .before .before .before .before .put-family2 .ensures)) (c .before .before .put-cid-and-token .ensures) in
+    wrote-few (24 + (17 + a .cid .len)) (41 + a .cid .len) _ _ (a .out .now) _ (omega (arith, w .few)) w
 
 pub put-address-value-spec : {M : Type 1} → statement M
 put-address-value-spec =

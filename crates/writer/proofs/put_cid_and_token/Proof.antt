@@ -17,14 +17,14 @@ use Rattle.writer.proofs.put_cid_and_token.Tie as tie
 known : (c : tie.Start) → length (c .args .token .bytes) ≡ 16
 known c = search needs
 
-kept : (c : tie.After-known-told) → Wrote 21 (cidWire (c .before .before .before .before .before .before .before .before .before .args .cid)) (c .before .before .before .before .before .before .before .before .before .args .out .now) (c .before .at .given .0 .0) (c .before .before .before .before .before .encode-long .last .1 .0)
+kept : (c : tie.After-known-told) → Wrote (1 + c .before .before .before .before .before .before .before .before .before .args .cid .len) (cidWire (c .before .before .before .before .before .before .before .before .before .args .cid)) (c .before .before .before .before .before .before .before .before .before .args .out .now) (c .before .at .given .0 .0) (c .before .before .before .before .before .encode-long .last .1 .0)
 kept c = let s = c .before .before .before .before .before .before .before .before .before in cid-encoded _ _ (s .args .out .now) _ (s .pre .0) (omega arith) (c .before .before .before .before .before .encode-long .ensures) _ (ap countOutcome (c .before .at .given .1))
 
-stored : (c : tie.After-slice-known3) → Wrote 37 (cidWire (c .before .before .before .before .before .before .before .before .before .before .before .before .before .before .args .cid) ++ c .before .before .before .before .before .before .before .before .before .before .before .before .before .before .args .token .bytes) (c .before .before .before .before .before .before .before .before .before .before .before .before .before .before .args .out .now) (c .before .before .before .before .before .before .at .given .0 .0 + c .before .before .put-bytes .result)
+stored : (c : tie.After-slice-known3) → Wrote (17 + c .before .before .before .before .before .before .before .before .before .before .before .before .before .before .args .cid .len) (cidWire (c .before .before .before .before .before .before .before .before .before .before .before .before .before .before .args .cid) ++ c .before .before .before .before .before .before .before .before .before .before .before .before .before .before .args .token .bytes) (c .before .before .before .before .before .before .before .before .before .before .before .before .before .before .args .out .now) (c .before .before .before .before .before .before .at .given .0 .0 + c .before .before .put-bytes .result)
     (back (c .before .before .before .before .before .before .at .given .0 .0) (c .before .before .before .before .before .before .before .before .before .before .encode-long .last .1 .0) (c .before .before .put-bytes .last .1 .0))
 stored c =
     let s = c .before .before .before .before .before .before .before .before .before .before .before .before .before .before in
-    token-behind _ _ _ _ (s .args .out .now) _ _ (s .pre .1) (known s) (kept (c .before .before .before .before .before)) (c .before .before .put-bytes .ensures)
+    token-behind _ _ (s .args .cid .len) _ _ (s .args .out .now) _ _ (s .pre .1) (known s) (kept (c .before .before .before .before .before)) (c .before .before .put-bytes .ensures)
 
 encode-long-requires : tie.Need-encode-long-requires
 encode-long-requires c κs = search needs

@@ -3,7 +3,7 @@ use native.Mathlib.Omega.{arith}
 use mathlib.Core.Path.{sym}
 use lib.Seq.{length-take-le}
 use Rattle.wire.proofs.Stored.{stored-short}
-use Rattle.writer.proofs.Answers.{laid-room, laid-ordered, laid-plain}
+use Rattle.writer.proofs.Answers.{laid-count, laid-ordered, laid-plain}
 use borrow.Author.Needs.{needs}
 use Rattle.writer.proofs.put_laid.Statement.{statement}
 use Rattle.writer.proofs.put_laid.Tie as tie
@@ -12,7 +12,7 @@ returns : tie.Need-returns
 returns c = stored-short _ (c .before .before .before .args .out .now) (omega (arith, c .before .before .before .pre .count))
 
 put-ordered-requires : tie.Need-put-ordered-requires
-put-ordered-requires c κs = let s = c .before .before .before .before .before in let t = c .before .if2 .taken in (s .pre .in-order t, laid-room _ _ _ _ (s .args .out .now) _ t (s .pre) (c .before .before .if1 .left))
+put-ordered-requires c κs = let s = c .before .before .before .before .before in let t = c .before .if2 .taken in (s .pre .in-order t, laid-count _ _ _ _ (s .args .out .now) _ t (s .pre), c .before .before .if1 .left)
 
 same-length : tie.Need-same-length
 same-length c = search needs
