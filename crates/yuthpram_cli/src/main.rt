@@ -4,129 +4,109 @@ mod fault;
 mod form;
 mod help;
 mod input;
-mod lines;
-mod names;
 mod out;
+mod rows;
 mod show;
 mod text;
 
 use input::Input;
 use input::SideWord;
 use input::first;
-use out::complain;
-use rules::Side;
+use input::is_argument;
+use input::is_followed;
+use out::Status;
 use text::DecimalText;
 
+// Where the wrapper learns how the program ended, which has no exit status of its own.
+const STATUS_FILENO: i32 = 3;
+
 enum Command {
-    Help,
     Read,
     Tidy,
     Check,
-    Write,
-    Number,
-    Unknown,
 }
 
-fn number_command() {
-    if input::is_argument(2, b"--write") {
+fn number_command() -> Status {
+    if is_argument(2, b"--write") {
+        if is_followed(3) {
+            return help::note_surplus();
+        }
         let mut digits = [0u8; 32];
         let n = os::arg(3, &mut digits);
-        match text::parse_decimal(&digits[..n]) {
+        return match text::parse_decimal(&digits[..n]) {
             DecimalText::Number(x) => answers::encode(x),
-            DecimalText::Strange => complain(b"yuthpram: number --write takes a decimal number\n"),
-        }
-        return;
+            DecimalText::Strange => help::misused(b"yuthpram: not a decimal number\n"),
+        };
     }
     let mut src = io::large_buffer();
     let Input::Bytes(n) = input::bytes_at(2, &mut src) else {
-        return;
+        return Status::Misused;
     };
-    answers::decode(first(n, &src));
+    answers::decode(first(n, &src))
 }
 
-fn write_command() {
+fn write_command() -> Status {
     let mut text = io::large_buffer();
     let Input::Bytes(n) = input::form_at(2, &mut text) else {
-        return;
+        return Status::Misused;
     };
-    let form = first(n, &text);
-    if lines::are_sound(form) {
-        answers::write(form);
-    }
+    answers::write(first(n, &text))
 }
 
-fn check_record_command(side: Side) {
-    let mut text = io::large_buffer();
-    let Input::Bytes(n) = input::form_at(4, &mut text) else {
-        return;
-    };
-    let form = first(n, &text);
-    if lines::are_sound(form) {
-        answers::check_record(side, form);
-    }
-}
-
-// The commands on an extension.
-fn extension_command(command: Command) {
+// The commands that name a side.
+fn side_command(command: Command) -> Status {
     let SideWord::Is(side) = input::side_at(2) else {
-        return;
+        return Status::Misused;
     };
     let mut src = io::large_buffer();
+    if let Command::Check = command {
+        if is_argument(3, b"--record") {
+            let Input::Bytes(n) = input::form_at(4, &mut src) else {
+                return Status::Misused;
+            };
+            return answers::check_record(side, first(n, &src));
+        }
+    }
     let Input::Bytes(n) = input::bytes_at(3, &mut src) else {
-        return;
+        return Status::Misused;
     };
     let extension = first(n, &src);
     match command {
         Command::Read => answers::read(side, extension),
         Command::Tidy => answers::tidy(side, extension),
-        _ => answers::check(side, extension),
+        Command::Check => answers::check(side, extension),
     }
 }
 
-fn check_command() {
-    if !input::is_argument(3, b"--record") {
-        extension_command(Command::Check);
-        return;
-    }
-    let SideWord::Is(side) = input::side_at(2) else {
-        return;
-    };
-    check_record_command(side);
-}
-
-fn command_given() -> Command {
+fn run() -> Status {
     if os::arg_count() < 2 {
-        return Command::Help;
+        return help::say_help();
     }
-    if input::is_argument(1, b"--help") || input::is_argument(1, b"-h") {
-        return Command::Help;
+    if is_argument(1, b"--help") || is_argument(1, b"-h") {
+        return help::say_help();
     }
-    if input::is_argument(1, b"read") {
-        return Command::Read;
+    if is_argument(1, b"read") {
+        return side_command(Command::Read);
     }
-    if input::is_argument(1, b"tidy") {
-        return Command::Tidy;
+    if is_argument(1, b"tidy") {
+        return side_command(Command::Tidy);
     }
-    if input::is_argument(1, b"check") {
-        return Command::Check;
+    if is_argument(1, b"check") {
+        return side_command(Command::Check);
     }
-    if input::is_argument(1, b"write") {
-        return Command::Write;
+    if is_argument(1, b"write") {
+        return write_command();
     }
-    if input::is_argument(1, b"number") {
-        return Command::Number;
+    if is_argument(1, b"number") {
+        return number_command();
     }
-    Command::Unknown
+    help::misused(b"yuthpram: no such command\n")
 }
 
 fn main() {
-    let c = command_given();
-    match c {
-        Command::Help => help::say_help(),
-        Command::Read | Command::Tidy => extension_command(c),
-        Command::Check => check_command(),
-        Command::Write => write_command(),
-        Command::Number => number_command(),
-        Command::Unknown => complain(b"yuthpram: no such command (try --help)\n"),
-    }
+    match run() {
+        Status::Answered => io::write_all(STATUS_FILENO, b"0"),
+        Status::Refused => io::write_all(STATUS_FILENO, b"1"),
+        Status::Misused => io::write_all(STATUS_FILENO, b"2"),
+    };
 }

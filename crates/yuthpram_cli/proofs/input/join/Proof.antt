@@ -1,4 +1,4 @@
--- `join` is safe and ends, and stays within the buffer. Assumes nothing.
+-- `join` is safe and ends. The invariant: the place is within the buffer. Assumes nothing.
 use Prim.Native.Nat.{_≤_, _-_}
 use lib.ListN.{length, length-set}
 use native.Mathlib.Omega.{arith}
@@ -37,11 +37,17 @@ add-at c = search needs
 errno-requires : tie.Need-errno-requires Inv-loop μ-loop
 errno-requires c κs = search needs
 
+too-long-requires : tie.Need-too-long-requires Inv-loop μ-loop
+too-long-requires c κs = search needs
+
 same-length : tie.Need-same-length Inv-loop μ-loop
 same-length c = search needs
 
 returns : tie.Need-returns Inv-loop μ-loop
 returns c = search needs
+
+too-long-requires-2 : tie.Need-too-long-requires-2 Inv-loop μ-loop
+too-long-requires-2 c κs = search needs
 
 same-length-2 : tie.Need-same-length-2 Inv-loop μ-loop
 same-length-2 c = search needs
@@ -84,8 +90,10 @@ join-spec =
     arg-requires
     add-at
     errno-requires
+    too-long-requires
     same-length
     returns
+    too-long-requires-2
     same-length-2
     returns-2
     slice-write-out

@@ -8,10 +8,10 @@ use Rattle.yuthpram_cli.proofs.text.parse_hex.Statement.{statement}
 use Rattle.yuthpram_cli.proofs.text.parse_hex.Tie as tie
 
 abbrev Inv-loop : tie.InvT-loop
-Inv-loop text out₀ digits₀ i₀ out digits i = (digits ≤ i) × (i ≤ length text) × (length out ≡ length out₀)
+Inv-loop text out₀ at room digits₀ i₀ out digits i = (digits ≤ i) × (i ≤ length text) × (length out ≡ length out₀)
 
 abbrev μ-loop : tie.MeasureT-loop
-μ-loop text out₀ digits₀ i₀ out digits i = length text - i
+μ-loop text out₀ at room digits₀ i₀ out digits i = length text - i
 
 loop-holds : tie.Need-loop-holds Inv-loop μ-loop
 loop-holds c = search needs
