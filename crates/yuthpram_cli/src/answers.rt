@@ -6,13 +6,15 @@ use crate::form;
 use crate::input::first;
 use crate::out::Status;
 use crate::out::note;
-use crate::out::note_number;
+use crate::out::put_count;
 use crate::out::say;
 use crate::out::say_hex;
 use crate::out::say_number;
 use crate::show;
 use catalogue::MAX_EXTENSION;
 use image::RECORD_SIZE;
+use libc::STDERR_FILENO;
+use libc::STDOUT_FILENO;
 use record::TransportParameters;
 use refusal::Answer;
 use refusal::Counted;
@@ -21,35 +23,26 @@ use rules::Side;
 use varint::Decoded;
 use varint::VarInt;
 
-fn show_record(r: TransportParameters) -> Status {
+fn show_record(r: TransportParameters) {
     let mut record = [0u8; RECORD_SIZE];
     image::image_to(r, &mut record);
     show::show(&record);
+}
+
+// Reads an extension, and shows it or only tells that it is accepted.
+pub fn read(side: Side, src: &[u8], is_shown: bool) -> Status {
+    let reading = reader::read(side, src);
+    let answer = reading.answer;
+    if let Answer::Refused(r) = answer {
+        return explain(side, r, src);
+    }
+    if is_shown {
+        let r = reading.parameters;
+        show_record(r);
+    } else {
+        say(b"accepted\n");
+    }
     Status::Answered
-}
-
-pub fn read(side: Side, src: &[u8]) -> Status {
-    let reading = reader::read(side, src);
-    let answer = reading.answer;
-    match answer {
-        Answer::Accepted => {
-            let r = reading.parameters;
-            show_record(r)
-        }
-        Answer::Refused(r) => explain(side, r, src),
-    }
-}
-
-pub fn check(side: Side, src: &[u8]) -> Status {
-    let reading = reader::read(side, src);
-    let answer = reading.answer;
-    match answer {
-        Answer::Accepted => {
-            say(b"accepted\n");
-            Status::Answered
-        }
-        Answer::Refused(r) => explain(side, r, src),
-    }
 }
 
 // Bytes that were stored at the front of `out`.
@@ -64,6 +57,15 @@ fn say_stored(stored: Counted, out: &[u8]) -> Status {
     }
 }
 
+// The operations on a record, by its image.
+fn write_image(record: &[u8], out: &mut [u8]) -> Counted {
+    writer::write(image::record_from(record).parameters, out)
+}
+
+fn check_image(side: Side, record: &[u8]) -> Answer {
+    rules::check(image::record_from(record).parameters, side)
+}
+
 // Writes a record in text form.
 pub fn write(text: &[u8]) -> Status {
     let mut record = [0u8; RECORD_SIZE];
@@ -71,49 +73,34 @@ pub fn write(text: &[u8]) -> Status {
         return Status::Misused;
     }
     let mut out = [0u8; MAX_EXTENSION];
-    let stored = writer::write(image::record_from(&record).parameters, &mut out);
+    let stored = write_image(&record, &mut out);
     say_stored(stored, &out)
 }
 
 // Which rule a record breaks: that which its extension breaks, or that no family that is given is all zero.
-fn note_rule(side: Side, record: TransportParameters) {
+fn note_rule(side: Side, record: &[u8]) {
     let mut out = [0u8; MAX_EXTENSION];
-    let Counted::Count(n) = writer::write(record, &mut out) else {
+    let Counted::Count(n) = write_image(record, &mut out) else {
         return;
     };
-    let extension = first(n, &out);
-    let answer = reader::read(side, extension).answer;
-    match answer {
-        Answer::Accepted => note(b"preferred_address: a family of zeros and port 0\n"),
-        Answer::Refused(_) => note_culprit(side, extension),
-    }
+    note_culprit(side, first(n, &out));
 }
 
 // Checks a record in text form.
 pub fn check_record(side: Side, text: &[u8]) -> Status {
-    let mut image = [0u8; RECORD_SIZE];
-    if !form::fill(text, &mut image) {
+    let mut record = [0u8; RECORD_SIZE];
+    if !form::fill(text, &mut record) {
         return Status::Misused;
     }
-    let record = image::record_from(&image).parameters;
-    let Answer::Refused(r) = rules::check(record, side) else {
+    let Answer::Refused(r) = check_image(side, &record) else {
         say(b"legal\n");
         return Status::Answered;
     };
     refused(r);
     if let Refusal::IllegalValue = r {
-        note_rule(side, record);
+        note_rule(side, &record);
     }
     Status::Refused
-}
-
-fn note_bytes(n: usize) {
-    note_number(n as u64);
-    if n == 1 {
-        note(b" byte");
-    } else {
-        note(b" bytes");
-    }
 }
 
 pub fn tidy(side: Side, src: &[u8]) -> Status {
@@ -122,14 +109,13 @@ pub fn tidy(side: Side, src: &[u8]) -> Status {
     match stored {
         Counted::Refused(r) => explain(side, r, src),
         Counted::Count(n) => {
-            say_stored(stored, &out);
             if n <= src.len() {
-                note_bytes(src.len() - n);
+                put_count(STDERR_FILENO, src.len() - n);
                 note(b" saved, ");
             }
-            note_bytes(n);
+            put_count(STDERR_FILENO, n);
             note(b" left\n");
-            Status::Answered
+            say_stored(stored, &out)
         }
     }
 }
@@ -139,12 +125,8 @@ pub fn decode(src: &[u8]) -> Status {
         Decoded::Value(x, n) => {
             say_number(x);
             say(b" (");
-            say_number(n as u64);
-            if n == 1 {
-                say(b" byte)\n");
-            } else {
-                say(b" bytes)\n");
-            }
+            put_count(STDOUT_FILENO, n);
+            say(b")\n");
             Status::Answered
         }
         Decoded::Refused(r) => refused(r),

@@ -4,7 +4,6 @@ ghost use lib.ListN.{length};
 use crate::out::Status;
 use crate::out::note;
 use crate::out::note_number;
-use crate::rows::label;
 use crate::text::word;
 use catalogue::ACK_DELAY_EXPONENT;
 use catalogue::ACTIVE_CONNECTION_ID_LIMIT;
@@ -16,6 +15,7 @@ use catalogue::INITIAL_SRC_CID;
 use catalogue::MAX_ACK_DELAY;
 use catalogue::MAX_UDP_PAYLOAD_SIZE;
 use catalogue::MIN_ACK_DELAY;
+use catalogue::NAMES;
 use catalogue::ORIGINAL_DST_CID;
 use catalogue::PLACES;
 use catalogue::PREFERRED_ADDRESS;
@@ -39,20 +39,33 @@ struct Culprit {
 }
 
 pub fn refused(r: Refusal) -> Status {
+    let number = r.number() as usize;
     note(b"refused ");
-    note_number(r.number() as u64);
-    match r {
-        Refusal::Malformed => note(b": malformed\n"),
-        Refusal::IllegalValue => note(b": a value that is not allowed\n"),
-        Refusal::UnexpectedEnd => note(b": the input ends within the number\n"),
-        Refusal::VarIntBoundsExceeded => note(b": the number is 2^62 or more\n"),
-        Refusal::BufferTooShort => note(b": the output is too short\n"),
-        Refusal::InvalidOrder => note(b": the order is not a permutation of 0 to 20\n"),
-        Refusal::IllFormed => note(b": the record is not well formed\n"),
-        Refusal::LimitReduced => note(b": a remembered limit is reduced\n"),
-        Refusal::InvalidDraw => note(b": a drawn value is out of range\n"),
-    }
+    note_number(number as u64);
+    note(b": ");
+    let texts = b"-
+malformed
+a value that is not allowed
+the input ends within the number
+the number is 2^62 or more
+the output is too short
+the order is not a permutation of 0 to 20
+the record is not well formed
+a remembered limit is reduced
+a drawn value is out of range";
+    note(word(texts, number, b'\n'));
+    note(b"\n");
     Status::Refused
+}
+
+// Whether an extension is refused.
+fn is_broken(side: Side, src: &[u8]) -> bool {
+    let entries = index::index(side, src);
+    let found = entries.found;
+    match found {
+        Scanned::Marks(_) => false,
+        Scanned::Stopped(_) => true,
+    }
 }
 
 // Whether a parameter may be the one that breaks a value rule: it does so by itself, or is min_ack_delay, which is held to max_ack_delay.
@@ -60,12 +73,7 @@ fn is_suspect(side: Side, place: usize, parameter: &[u8]) -> bool {
     if place == MIN_ACK_DELAY {
         return true;
     }
-    let entries = index::index(side, parameter);
-    let found = entries.found;
-    match found {
-        Scanned::Marks(_) => false,
-        Scanned::Stopped(_) => true,
-    }
+    is_broken(side, parameter)
 }
 
 // The parameter at a position: its identifier, and where its value starts and ends; it ends at 0 if none is whole.
@@ -128,30 +136,38 @@ fn locate(side: Side, src: &[u8]) -> Culprit {
     }
 }
 
-// Why a value does not fit its length.
-fn note_misfit(place: usize) {
+// Why a value does not fit its length, by its line of the causes.
+fn misfit(place: usize) -> usize {
     match place {
-        STATELESS_RESET_TOKEN => note(b"not 16 bytes\n"),
-        DISABLE_ACTIVE_MIGRATION | GREASE_QUIC_BIT => note(b"not empty\n"),
-        PREFERRED_ADDRESS => note(b"not as long as it says, or an ID of over 20 bytes\n"),
-        ORIGINAL_DST_CID | INITIAL_SRC_CID | RETRY_SRC_CID => note(b"over 20 bytes\n"),
-        _ => note(b"not one number that fills its length\n"),
+        STATELESS_RESET_TOKEN => 1,
+        DISABLE_ACTIVE_MIGRATION | GREASE_QUIC_BIT => 2,
+        PREFERRED_ADDRESS => 3,
+        ORIGINAL_DST_CID | INITIAL_SRC_CID | RETRY_SRC_CID => 4,
+        _ => 5,
     }
 }
 
 // Which rule a value breaks.
-fn note_rule(side: Side, place: usize) {
+fn rule(side: Side, place: usize) -> usize {
     match place {
-        MAX_UDP_PAYLOAD_SIZE => note(b"under 1200\n"),
-        INITIAL_MAX_STREAMS_BIDI | INITIAL_MAX_STREAMS_UNI => note(b"over 2^60\n"),
-        ACK_DELAY_EXPONENT => note(b"over 20\n"),
-        MAX_ACK_DELAY => note(b"16384 or more\n"),
-        ACTIVE_CONNECTION_ID_LIMIT => note(b"under 2\n"),
-        MIN_ACK_DELAY => note(b"longer than max_ack_delay\n"),
+        MAX_UDP_PAYLOAD_SIZE => 6,
+        INITIAL_MAX_STREAMS_BIDI | INITIAL_MAX_STREAMS_UNI => 7,
+        ACK_DELAY_EXPONENT => 8,
+        MAX_ACK_DELAY => 9,
+        ACTIVE_CONNECTION_ID_LIMIT => 10,
+        MIN_ACK_DELAY => 11,
         _ => match side {
-            Side::Client => note(b"no address, or an empty connection ID\n"),
-            Side::Server => note(b"a client may not send it\n"),
+            Side::Client => 12,
+            Side::Server => 13,
         },
+    }
+}
+
+fn cause(side: Side, fault: Fault, place: usize) -> usize {
+    match fault {
+        Fault::SecondCopy => 0,
+        Fault::Illegal => rule(side, place),
+        _ => misfit(place),
     }
 }
 
@@ -160,16 +176,26 @@ fn note_cause(side: Side, c: Culprit) {
     let fault = c.fault;
     let id = c.id;
     let place = catalogue::place_of(id);
-    let name = label(place);
-    note(word(&name, 0, b' '));
+    let causes = b"a second copy
+not 16 bytes
+not empty
+not as long as it says, or an ID of over 20 bytes
+over 20 bytes
+not one number that fills its length
+under 1200
+over 2^60
+over 20
+16384 or more
+under 2
+longer than max_ack_delay
+no address, or an empty connection ID
+a client may not send it";
+    note(word(&NAMES, place, b' '));
     note(b" (0x");
     io::print_hex(STDERR_FILENO, id, 2);
     note(b"): ");
-    match fault {
-        Fault::SecondCopy => note(b"a second copy\n"),
-        Fault::Illegal => note_rule(side, place),
-        _ => note_misfit(place),
-    }
+    note(word(causes, cause(side, fault, place), b'\n'));
+    note(b"\n");
 }
 
 // A refusal of reading, and its cause.
@@ -188,7 +214,11 @@ pub fn explain(side: Side, r: Refusal, src: &[u8]) -> Status {
     Status::Refused
 }
 
-// The cause alone, and not at which byte it stands.
+// The cause alone, of a record's extension. If the extension is accepted, no value rule is broken: then a family that is given is all zero.
 pub fn note_culprit(side: Side, src: &[u8]) {
-    note_cause(side, locate(side, src));
+    if is_broken(side, src) {
+        note_cause(side, locate(side, src));
+    } else {
+        note(b"preferred_address: a family of zeros and port 0\n");
+    }
 }

@@ -18,6 +18,7 @@ use crate::text::Hex;
 use crate::text::line_at;
 use crate::text::parse_decimal;
 use crate::text::parse_hex;
+use crate::text::position;
 use crate::text::set;
 use crate::text::word;
 use catalogue::DISABLE_ACTIVE_MIGRATION;
@@ -34,40 +35,35 @@ use marks::is_marked;
 use marks::with_mark;
 use record::TransportParameters;
 
-// What may be amiss in a line.
-enum Slip {
-    Nothing,
-    Name,
-    Again,
-    Number,
-    Digits,
-    Token,
-    Flag,
-    Address,
-    Order,
-    More,
-}
+// What may be amiss in a line, by its line of the complaints.
+const FINE: usize = 0;
 
-// A slip, and in which line; the lines count from 1.
-struct Formed {
+const NAME: usize = 1;
+
+const AGAIN: usize = 2;
+
+const NUMBER: usize = 3;
+
+const DIGITS: usize = 4;
+
+const TOKEN: usize = 5;
+
+const FLAG: usize = 6;
+
+const ADDRESS: usize = 7;
+
+const PLACE: usize = 8;
+
+const MORE: usize = 9;
+
+// What is amiss, and in which line; the lines count from 1.
+struct Slip {
     line: usize,
-    slip: Slip,
+    what: usize,
 }
 
-fn slip_unless(fine: bool, slip: Slip) -> Slip {
-    if fine { Slip::Nothing } else { slip }
-}
-
-fn is_slip(slip: Slip) -> bool {
-    match slip {
-        Slip::Nothing => false,
-        _ => true,
-    }
-}
-
-fn has_word(line: &[u8], k: usize) -> bool {
-    let w = word(line, k, b' ');
-    0 < w.len()
+fn unless(fine: bool, what: usize) -> usize {
+    if fine { FINE } else { what }
 }
 
 fn low(x: u64) -> u8 {
@@ -114,20 +110,23 @@ fn put_list(text: &[u8], from: usize, to: usize, sep: u8, out: &mut [u8], at: us
     more.len() == 0
 }
 
-// Bytes behind their length. One of too many is stored, and refused later.
-fn put_counted(digits: &[u8], out: &mut [u8], at: usize, room: u8) -> Slip
+// Bytes behind their length. Too many get a length that is refused later.
+fn put_counted(digits: &[u8], out: &mut [u8], at: usize, room: u8) -> usize
     requires { ⌜ at < 70000 ⌝ }
 {
+    if check::same(digits, b"(empty)") {
+        return FINE;
+    }
     match parse_hex(digits, out, at + 1, room as usize) {
         Hex::Bytes(n) => {
             set(out, at, 0, low(n as u64));
-            Slip::Nothing
+            FINE
         }
         Hex::Long => {
             set(out, at, 0, 255);
-            Slip::Nothing
+            FINE
         }
-        _ => Slip::Digits,
+        _ => DIGITS,
     }
 }
 
@@ -139,22 +138,12 @@ fn put_16(digits: &[u8], out: &mut [u8], at: usize) -> bool {
     }
 }
 
-fn put_id(line: &[u8], out: &mut [u8], at: usize) -> Slip
-    requires { ⌜ at < 65536 ⌝ }
-{
-    let digits = word(line, 1, b' ');
-    if check::same(digits, b"(empty)") {
-        return Slip::Nothing;
-    }
-    put_counted(digits, out, at, 20)
-}
-
 // An identifier, and a payload behind its length.
-fn put_reserved(line: &[u8], out: &mut [u8], at: usize) -> Slip
+fn put_reserved(line: &[u8], out: &mut [u8], at: usize) -> usize
     requires { ⌜ at < 65536 ⌝ }
 {
     if !put_number(word(line, 1, b' '), u64::MAX, out, at, 8) {
-        return Slip::Number;
+        return NUMBER;
     }
     put_counted(word(line, 2, b' '), out, at + 8, 16)
 }
@@ -181,34 +170,38 @@ fn put_family(line: &[u8], n: usize, out: &mut [u8], at: usize) -> bool
 }
 
 fn is_flag(value: &[u8]) -> bool {
-    value.len() == 0 || check::same(value, b"set") || check::same(value, b"present")
+    if value.len() == 0 {
+        return true;
+    }
+    position(b"set present", 2, value) < 2
 }
 
-// How many words a line has at most; what stands behind a number is ignored.
-fn words_at_most(row: usize) -> usize {
+// How many words a line may have: what stands behind a number is ignored.
+fn most_words(row: usize) -> usize {
     match row {
         STATELESS_RESET_TOKEN | ADDRESS_TOKEN => 2,
         ORIGINAL_DST_CID | INITIAL_SRC_CID | RETRY_SRC_CID | ADDRESS_CID => 2,
         RESERVED => 3,
+        ORDER => PLACES + 1,
         _ => 4,
     }
 }
 
 // Stores the value of a line that gives one.
-fn put_value(row: usize, line: &[u8], out: &mut [u8]) -> Slip {
+fn put_value(row: usize, line: &[u8], out: &mut [u8]) -> usize {
     let at = value_at(row);
     let value = word(line, 1, b' ');
     match row {
-        STATELESS_RESET_TOKEN | ADDRESS_TOKEN => slip_unless(put_16(value, out, at), Slip::Token),
+        STATELESS_RESET_TOKEN | ADDRESS_TOKEN => unless(put_16(value, out, at), TOKEN),
         DISABLE_ACTIVE_MIGRATION | PREFERRED_ADDRESS | GREASE_QUIC_BIT => {
-            slip_unless(is_flag(value), Slip::Flag)
+            unless(is_flag(value), FLAG)
         }
-        ORIGINAL_DST_CID | INITIAL_SRC_CID | RETRY_SRC_CID | ADDRESS_CID => put_id(line, out, at),
+        ORIGINAL_DST_CID | INITIAL_SRC_CID | RETRY_SRC_CID | ADDRESS_CID => put_counted(value, out, at, 20),
         RESERVED => put_reserved(line, out, at),
-        ADDRESS_V4 => slip_unless(put_family(line, 4, out, at), Slip::Address),
-        ADDRESS_V6 => slip_unless(put_family(line, 16, out, at), Slip::Address),
-        ORDER => slip_unless(put_list(line, 1, PLACES + 1, b' ', out, at), Slip::Order),
-        _ => slip_unless(put_number(value, u64::MAX, out, at, 8), Slip::Number),
+        ADDRESS_V4 => unless(put_family(line, 4, out, at), ADDRESS),
+        ADDRESS_V6 => unless(put_family(line, 16, out, at), ADDRESS),
+        ORDER => unless(put_list(line, 1, PLACES + 1, b' ', out, at), PLACE),
+        _ => unless(put_number(value, u64::MAX, out, at, 8), NUMBER),
     }
 }
 
@@ -222,78 +215,77 @@ fn put_flag(row: usize, out: &mut [u8]) {
 }
 
 // Stores what a line says, if its row was not met before. Only what can be absent is let off its value.
-fn put(met: u32, row: usize, line: &[u8], out: &mut [u8]) -> Slip {
+fn put(met: u32, row: usize, line: &[u8], out: &mut [u8]) -> usize {
     if is_marked(met, row) {
-        return Slip::Again;
+        return AGAIN;
     }
     if ROWS <= row {
-        return slip_unless(row == BLANK, Slip::Name);
+        return unless(row == BLANK, NAME);
     }
     if row < NUMBERS {
         return put_value(row, line, out);
     }
     let value = word(line, 1, b' ');
-    if check::same(value, b"absent") || check::same(value, b"not") {
-        return Slip::Nothing;
+    if position(b"absent not", 2, value) < 2 {
+        return FINE;
     }
-    if row != ORDER && has_word(line, words_at_most(row)) {
-        return Slip::More;
+    let more = word(line, most_words(row), b' ');
+    if 0 < more.len() {
+        return MORE;
     }
     put_flag(row, out);
     put_value(row, line, out)
 }
 
 // Stores what the lines say into an image, up to the first slip.
-fn put_lines(text: &[u8], out: &mut [u8]) -> Formed {
+fn put_lines(text: &[u8], out: &mut [u8]) -> Slip {
     let mut met: u32 = 0;
-    let mut count: usize = 0;
+    let mut line: usize = 0;
     let mut at: usize = 0;
     while at < text.len() {
-        let line = line_at(text, at);
-        let row = row_of(line);
-        let slip = put(met, row, line, out);
-        count += 1;
-        if is_slip(slip) {
-            return Formed { line: count, slip };
+        let l = line_at(text, at);
+        let row = row_of(l);
+        let what = put(met, row, l, out);
+        line += 1;
+        if what != FINE {
+            return Slip { line, what };
         }
-        if text.len() - at <= line.len() {
-            return Formed { line: count, slip };
+        if text.len() - at <= l.len() {
+            return Slip { line, what };
         }
         met = with_mark(met, row);
-        at += line.len() + 1;
+        at += l.len() + 1;
     }
-    Formed {
-        line: count,
-        slip: Slip::Nothing,
-    }
+    Slip { line, what: FINE }
 }
 
-fn note_slip(slip: Slip) {
-    match slip {
-        Slip::Nothing => {}
-        Slip::Name => note(b"no such name\n"),
-        Slip::Again => note(b"a second line of this name\n"),
-        Slip::Number => note(b"not a decimal number\n"),
-        Slip::Digits => note(b"not hexadecimal\n"),
-        Slip::Token => note(b"not 16 bytes in hexadecimal\n"),
-        Slip::Flag => note(b"a flag has no value, or set\n"),
-        Slip::Address => note(b"not an address and a port\n"),
-        Slip::Order => note(b"not 21 places\n"),
-        Slip::More => note(b"more than a value\n"),
-    }
+// The image of the record that says nothing.
+fn clear(out: &mut [u8]) {
+    image::image_to(TransportParameters::default(), out);
 }
 
 // The image of the record that a text says; tells whether each line is understood, and complains if not.
 pub fn fill(text: &[u8], out: &mut [u8]) -> bool {
-    image::image_to(TransportParameters::default(), out);
-    let formed = put_lines(text, out);
-    let slip = formed.slip;
-    if !is_slip(slip) {
+    clear(out);
+    let slip = put_lines(text, out);
+    let what = slip.what;
+    if what == FINE {
         return true;
     }
+    let complaints = b"-
+no such name
+a second line of this name
+not a decimal number
+not hexadecimal
+not 16 bytes in hexadecimal
+a flag has no value, or set
+not an address and a port
+not 21 places
+more than a value";
     note(b"yuthpram: line ");
-    note_number(formed.line as u64);
+    note_number(slip.line as u64);
     note(b": ");
-    note_slip(slip);
+    note(word(complaints, what, b'\n'));
+    note(b"\n");
     false
 }

@@ -6,14 +6,15 @@ use crate::out::say;
 fn usage(fd: i32) {
     io::write_all(
         fd,
-        b"\
-  yuthpram read SIDE [HEX]             show what an extension says to SIDE, client or server: the side that reads it\n\
-  yuthpram tidy SIDE [HEX]             write it anew in its shortest form\n\
-  yuthpram check SIDE [HEX]            tell whether SIDE accepts it\n\
-  yuthpram check SIDE --record [FILE]  tell whether a record in text form is legal for SIDE to read\n\
-  yuthpram write [FILE]                write the extension of a record in text form\n\
-  yuthpram number HEX                  decode a number: its value and how many bytes it takes\n\
-  yuthpram number --write DECIMAL      encode a number in its shortest form\n",
+        b"usage, where SIDE is client or server: the side that reads the extension
+  yuthpram read SIDE [HEX]             show what an extension says to SIDE
+  yuthpram tidy SIDE [HEX]             write it anew in its shortest form
+  yuthpram check SIDE [HEX]            tell whether SIDE accepts it
+  yuthpram check SIDE --record [FILE]  tell whether a record in text form is legal for SIDE to read
+  yuthpram write [FILE]                write the extension of a record in text form
+  yuthpram number HEX                  decode a number: its value and how many bytes it takes
+  yuthpram number --write DECIMAL      encode a number in its shortest form
+",
     );
 }
 
@@ -33,17 +34,17 @@ pub fn say_help() -> Status {
     usage(libc::STDOUT_FILENO);
     say(
         b"
-HEX may have spaces and colons in it. Without HEX or FILE, standard input is read; --raw in the place of HEX takes the bytes of standard\n\
-input as they are. An extension, and a record in text form, may have 65536 bytes.\n\
-\n\
-The text form of a record is what read shows: lines of a name and a value. Numbers are decimal, IDs and tokens hexadecimal, and what stands\n\
-behind the value of a number is ignored. A flag has no value, or set. What has no line has its default, or is absent. Lines that read does\n\
-not show:\n\
-  reserved ID HEX                      the reserved parameter: its identifier and its payload\n\
-  order 20 19 .. 0                     the places of the catalogue in the order of writing\n\
-  # ..                                 a comment\n\
-\n\
-Answers go to standard output; refusals, complaints and what tidying saved to standard error. Exit status: 0 answered, 1 refused, 2 not\n\
+HEX may have spaces and colons in it. Without HEX or FILE, standard input is read; --raw in the place of HEX takes the bytes of standard
+input as they are. An extension, and a record in text form, may have 65536 bytes.
+
+The text form of a record is what read shows: lines of a name and a value. Numbers are decimal, IDs and tokens hexadecimal, and what stands
+behind the value of a number is ignored. A flag has no value, or set. What has no line has its default, or is absent. Lines that read does
+not show:
+  reserved ID HEX                      the reserved parameter: its identifier and its payload
+  order 20 19 .. 0                     the places of the catalogue in the order of writing
+  # ..                                 a comment
+
+Answers go to standard output; refusals, complaints and what tidying saved to standard error. Exit status: 0 answered, 1 refused, 2 not
 called as it should be, 3 the answer could not be written.\n",
     );
     Status::Answered

@@ -6,6 +6,7 @@ use crate::out::note;
 use crate::out::note_number;
 use crate::text::Hex;
 use crate::text::parse_hex;
+use crate::text::position;
 use libc::STDIN_FILENO;
 use rules::Side;
 
@@ -25,21 +26,22 @@ const LIMIT: usize = 65536;
 
 const TEXT_LIMIT: usize = 262144;
 
-pub fn is_argument(i: usize, word: &[u8]) -> bool {
+// Which of the first `n` words of a list argument `i` is; `n` if none.
+pub fn choice(i: usize, list: &[u8], n: usize) -> usize {
     let mut buffer = [0u8; 32];
-    let n = os::arg(i, &mut buffer);
-    check::same(&buffer[..n], word)
+    let m = os::arg(i, &mut buffer);
+    position(list, n, &buffer[..m])
 }
 
 pub fn side_at(i: usize) -> SideWord {
-    if is_argument(i, b"client") {
-        return SideWord::Is(Side::Client);
+    match choice(i, b"client server", 2) {
+        0 => SideWord::Is(Side::Client),
+        1 => SideWord::Is(Side::Server),
+        _ => {
+            note(b"yuthpram: the side that reads is client or server (try --help)\n");
+            SideWord::Missing
+        }
     }
-    if is_argument(i, b"server") {
-        return SideWord::Is(Side::Server);
-    }
-    note(b"yuthpram: the side that reads is client or server (try --help)\n");
-    SideWord::Missing
 }
 
 // Whether there are arguments behind argument `i`.
@@ -144,7 +146,7 @@ fn hex_at(start: usize, out: &mut [u8]) -> Input {
 
 // The bytes that a command works on: raw from standard input, or in hexadecimal.
 pub fn bytes_at(start: usize, out: &mut [u8]) -> Input {
-    if !is_argument(start, b"--raw") {
+    if choice(start, b"--raw", 1) != 0 {
         return hex_at(start, out);
     }
     if is_followed(start) {

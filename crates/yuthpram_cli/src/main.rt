@@ -11,23 +11,29 @@ mod text;
 
 use input::Input;
 use input::SideWord;
+use input::choice;
 use input::first;
-use input::is_argument;
 use input::is_followed;
 use out::Status;
+use rules::Side;
 use text::DecimalText;
 
 // Where the wrapper learns how the program ended, which has no exit status of its own.
 const STATUS_FILENO: i32 = 3;
 
-enum Command {
-    Read,
-    Tidy,
-    Check,
-}
+// The commands, by their place in the list of words.
+const READ: usize = 0;
+
+const TIDY: usize = 1;
+
+const CHECK: usize = 2;
+
+const WRITE: usize = 3;
+
+const NUMBER: usize = 4;
 
 fn number_command() -> Status {
-    if is_argument(2, b"--write") {
+    if choice(2, b"--write", 1) == 0 {
         if is_followed(3) {
             return help::note_surplus();
         }
@@ -53,54 +59,50 @@ fn write_command() -> Status {
     answers::write(first(n, &text))
 }
 
+// Checks a record in text form.
+fn record_command(side: Side) -> Status {
+    let mut text = io::large_buffer();
+    let Input::Bytes(n) = input::form_at(4, &mut text) else {
+        return Status::Misused;
+    };
+    answers::check_record(side, first(n, &text))
+}
+
 // The commands that name a side.
-fn side_command(command: Command) -> Status {
+fn side_command(command: usize) -> Status {
     let SideWord::Is(side) = input::side_at(2) else {
         return Status::Misused;
     };
-    let mut src = io::large_buffer();
-    if let Command::Check = command {
-        if is_argument(3, b"--record") {
-            let Input::Bytes(n) = input::form_at(4, &mut src) else {
-                return Status::Misused;
-            };
-            return answers::check_record(side, first(n, &src));
+    if command == CHECK {
+        if choice(3, b"--record", 1) == 0 {
+            return record_command(side);
         }
     }
+    let mut src = io::large_buffer();
     let Input::Bytes(n) = input::bytes_at(3, &mut src) else {
         return Status::Misused;
     };
     let extension = first(n, &src);
-    match command {
-        Command::Read => answers::read(side, extension),
-        Command::Tidy => answers::tidy(side, extension),
-        Command::Check => answers::check(side, extension),
+    if command == TIDY {
+        return answers::tidy(side, extension);
     }
+    answers::read(side, extension, command == READ)
 }
 
 fn run() -> Status {
     if os::arg_count() < 2 {
         return help::say_help();
     }
-    if is_argument(1, b"--help") || is_argument(1, b"-h") {
-        return help::say_help();
+    let command = choice(1, b"read tidy check write number --help -h", 7);
+    if command <= CHECK {
+        return side_command(command);
     }
-    if is_argument(1, b"read") {
-        return side_command(Command::Read);
+    match command {
+        WRITE => write_command(),
+        NUMBER => number_command(),
+        7 => help::misused(b"yuthpram: no such command\n"),
+        _ => help::say_help(),
     }
-    if is_argument(1, b"tidy") {
-        return side_command(Command::Tidy);
-    }
-    if is_argument(1, b"check") {
-        return side_command(Command::Check);
-    }
-    if is_argument(1, b"write") {
-        return write_command();
-    }
-    if is_argument(1, b"number") {
-        return number_command();
-    }
-    help::misused(b"yuthpram: no such command\n")
 }
 
 fn main() {

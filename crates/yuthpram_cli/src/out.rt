@@ -35,3 +35,13 @@ pub fn note(text: &[u8]) {
 pub fn note_number(n: u64) {
     io::print_decimal(STDERR_FILENO, n);
 }
+
+// A count of bytes, to a descriptor.
+pub fn put_count(fd: i32, n: usize) {
+    io::print_decimal(fd, n as u64);
+    if n == 1 {
+        io::write_all(fd, b" byte");
+    } else {
+        io::write_all(fd, b" bytes");
+    }
+}

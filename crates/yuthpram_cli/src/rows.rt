@@ -1,8 +1,8 @@
 // The rows of a record's text form: the places of the catalogue, the parts of a preferred address, and the order; their names, and where each
 // stands in the image of a record.
-ghost use mathlib.Core.Path.{_≡_};
 ghost use Prim.Native.Nat.{_<_};
-ghost use lib.ListN.{length};
+use crate::out::say;
+use crate::text::position;
 use crate::text::word;
 use catalogue::NAME_WIDTH;
 use catalogue::NAMES;
@@ -23,11 +23,7 @@ pub const ROWS: usize = 26;
 // What a line without a name is; no mark is kept of it.
 pub const BLANK: usize = 32;
 
-const FIRST: usize = NAME_WIDTH * PLACES;
-
-const REST: usize = NAME_WIDTH * (ROWS - PLACES);
-
-const REST_NAMES: [u8; REST] = *b"\
+const REST_NAMES: [u8; NAME_WIDTH * (ROWS - PLACES)] = *b"\
 preferred_address_v4                \
 preferred_address_v6                \
 preferred_address_cid               \
@@ -65,31 +61,21 @@ pub fn flag_at(row: usize) -> usize {
     if at == 0 { 0 } else { at - 1 }
 }
 
-// A character of all names.
-fn letter(k: usize) -> u8 {
+// The name of a row, in a column.
+pub fn say_label(row: usize) {
     let first = NAMES;
     let rest = REST_NAMES;
-    if k < FIRST {
-        return first[k];
+    if row < PLACES {
+        let from = row * NAME_WIDTH;
+        let to = from + NAME_WIDTH;
+        say(&first[from..to]);
+        return;
     }
-    let j = k - FIRST;
-    if j < REST { rest[j] } else { b' ' }
-}
-
-// The name of a row, in a column.
-pub fn label(row: usize) -> [u8; NAME_WIDTH]
-    ensures { λ r. ⌜ 36 ≡ length r ⌝ }
-{
-    let mut out = [b' '; NAME_WIDTH];
-    if ROWS <= row {
-        return out;
+    if row < ROWS {
+        let from = (row - PLACES) * NAME_WIDTH;
+        let to = from + NAME_WIDTH;
+        say(&rest[from..to]);
     }
-    let mut i: usize = 0;
-    while i < NAME_WIDTH {
-        out[i] = letter(row * NAME_WIDTH + i);
-        i += 1;
-    }
-    out
 }
 
 // The row that a line is of; `ROWS` if no row has its name.
@@ -101,13 +87,9 @@ pub fn row_of(line: &[u8]) -> usize {
     if name[0] == b'#' {
         return BLANK;
     }
-    let mut row: usize = 0;
-    while row < ROWS {
-        let l = label(row);
-        if check::same(word(&l, 0, b' '), name) {
-            return row;
-        }
-        row += 1;
+    let place = position(&NAMES, PLACES, name);
+    if place < PLACES {
+        return place;
     }
-    row
+    PLACES + position(&REST_NAMES, ROWS - PLACES, name)
 }

@@ -8,9 +8,10 @@ use crate::rows::ADDRESS_TOKEN;
 use crate::rows::ADDRESS_V4;
 use crate::rows::ADDRESS_V6;
 use crate::rows::flag_at;
-use crate::rows::label;
+use crate::rows::say_label;
 use crate::rows::value_at;
 use crate::text::byte;
+use crate::text::word;
 use catalogue::ACK_DELAY_EXPONENT;
 use catalogue::ACTIVE_CONNECTION_ID_LIMIT;
 use catalogue::DEFAULTS;
@@ -42,21 +43,23 @@ fn number_at(image: &[u8], at: usize, n: usize) -> u64 {
     x
 }
 
-fn say_unit(place: usize) {
+// The unit of a number, by its line of the units.
+fn unit(place: usize) -> usize {
     match place {
-        MAX_IDLE_TIMEOUT | MAX_ACK_DELAY => say(b" milliseconds"),
-        MIN_ACK_DELAY => say(b" microseconds"),
-        INITIAL_MAX_STREAMS_BIDI | INITIAL_MAX_STREAMS_UNI => say(b" streams"),
-        ACTIVE_CONNECTION_ID_LIMIT => say(b" connection IDs"),
-        ACK_DELAY_EXPONENT => {}
-        _ => say(b" bytes"),
+        MAX_IDLE_TIMEOUT | MAX_ACK_DELAY => 0,
+        MIN_ACK_DELAY => 1,
+        INITIAL_MAX_STREAMS_BIDI | INITIAL_MAX_STREAMS_UNI => 2,
+        ACTIVE_CONNECTION_ID_LIMIT => 3,
+        ACK_DELAY_EXPONENT => 5,
+        _ => 4,
     }
 }
 
 fn say_value(place: usize, value: u64) {
     let defaults = DEFAULTS;
     say_number(value);
-    say_unit(place);
+    let units = b" milliseconds\n microseconds\n streams\n connection IDs\n bytes";
+    say(word(units, unit(place), b'\n'));
     if place < NUMBERS {
         if value == defaults[place] {
             say(b" (default)");
@@ -112,8 +115,7 @@ fn say_present(row: usize, image: &[u8]) {
 }
 
 fn show_row(row: usize, image: &[u8]) {
-    let name = label(row);
-    say(&name);
+    say_label(row);
     if row < NUMBERS || byte(image, flag_at(row), 0) == 1 {
         say_present(row, image);
     } else if row == DISABLE_ACTIVE_MIGRATION || row == GREASE_QUIC_BIT {

@@ -40,8 +40,11 @@ pub fn set(out: &mut [u8], at: usize, i: usize, b: u8) -> bool {
     false
 }
 
-// A space, the end of a line, or `sep`.
+// What parts words: the end of a line alone, or any space and `sep`.
 fn is_gap(b: u8, sep: u8) -> bool {
+    if sep == b'\n' {
+        return b == sep;
+    }
     b == b' ' || b == b'\t' || b == b'\n' || b == b'\r' || b == sep
 }
 
@@ -60,7 +63,7 @@ fn run(text: &[u8], at: usize, sep: u8, gap: bool) -> usize
     i
 }
 
-// Word `k` of the text, counted from 0; empty if there are fewer. Words are parted by gaps.
+// Word `k` of the text, counted from 0; empty if there are fewer. With the end of a line for `sep`, line `k`, of those that are not empty.
 pub fn word<'a>(text: &'a [u8], k: usize, sep: u8) -> &'a [u8] {
     let mut at: usize = 0;
     let mut i: usize = 0;
@@ -72,6 +75,20 @@ pub fn word<'a>(text: &'a [u8], k: usize, sep: u8) -> &'a [u8] {
     let from = run(text, at, sep, false);
     let to = run(text, from, sep, true);
     &text[from..to]
+}
+
+// Which of the first `n` words of a list a word is; `n` if none.
+pub fn position(list: &[u8], n: usize, w: &[u8]) -> usize
+    ensures { λ r. ⌜ r ≤ n ⌝ }
+{
+    let mut k: usize = 0;
+    while k < n {
+        if check::same(word(list, k, b' '), w) {
+            return k;
+        }
+        k += 1;
+    }
+    k
 }
 
 // The line that starts at `at`, without its end; empty beyond the text.

@@ -7,10 +7,10 @@ use Rattle.yuthpram_cli.proofs.form.put_lines.Statement.{statement}
 use Rattle.yuthpram_cli.proofs.form.put_lines.Tie as tie
 
 abbrev Inv-loop : tie.InvT-loop
-Inv-loop text out₀ met₀ count₀ at₀ out met count at = (count ≤ at) × (at ≤ length text) × (length out ≡ length out₀)
+Inv-loop text out₀ met₀ line₀ at₀ out met line at = (line ≤ at) × (at ≤ length text) × (length out ≡ length out₀)
 
 abbrev μ-loop : tie.MeasureT-loop
-μ-loop text out₀ met₀ count₀ at₀ out met count at = length text - at
+μ-loop text out₀ met₀ line₀ at₀ out met line at = length text - at
 
 loop-holds : tie.Need-loop-holds Inv-loop μ-loop
 loop-holds c = search needs
@@ -24,11 +24,8 @@ row-of-requires c κs = search needs
 put-requires : tie.Need-put-requires Inv-loop μ-loop
 put-requires c κs = search needs
 
-add-count : tie.Need-add-count Inv-loop μ-loop
-add-count c = search needs
-
-is-slip-requires : tie.Need-is-slip-requires Inv-loop μ-loop
-is-slip-requires c κs = search needs
+add-line : tie.Need-add-line Inv-loop μ-loop
+add-line c = search needs
 
 same-length : tie.Need-same-length Inv-loop μ-loop
 same-length c = search needs
@@ -76,8 +73,7 @@ put-lines-spec =
     line-at-requires
     row-of-requires
     put-requires
-    add-count
-    is-slip-requires
+    add-line
     same-length
     returns
     sub-if2
