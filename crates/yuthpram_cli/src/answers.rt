@@ -87,7 +87,7 @@ fn note_rule(side: Side, record: &[u8]) {
 }
 
 // Checks a record in text form.
-pub fn check_record(side: Side, text: &[u8]) -> Status {
+fn check_record(side: Side, text: &[u8]) -> Status {
     let mut record = [0u8; RECORD_SIZE];
     if !form::fill(text, &mut record) {
         return Status::Misused;
@@ -101,6 +101,14 @@ pub fn check_record(side: Side, text: &[u8]) -> Status {
         note_rule(side, &record);
     }
     Status::Refused
+}
+
+// Checks an extension, or a record in text form.
+pub fn check(side: Side, bytes: &[u8], is_record: bool) -> Status {
+    if is_record {
+        return check_record(side, bytes);
+    }
+    read(side, bytes, false)
 }
 
 pub fn tidy(side: Side, src: &[u8]) -> Status {

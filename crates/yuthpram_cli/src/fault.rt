@@ -3,6 +3,7 @@ ghost use Prim.Native.Nat.{_≤_};
 ghost use lib.ListN.{length};
 use crate::out::Status;
 use crate::out::note;
+use crate::out::note_line;
 use crate::out::note_number;
 use crate::text::word;
 use catalogue::ACK_DELAY_EXPONENT;
@@ -53,8 +54,7 @@ the order is not a permutation of 0 to 20
 the record is not well formed
 a remembered limit is reduced
 a drawn value is out of range";
-    note(word(texts, number, b'\n'));
-    note(b"\n");
+    note_line(texts, number);
     Status::Refused
 }
 
@@ -194,8 +194,7 @@ a client may not send it";
     note(b" (0x");
     io::print_hex(STDERR_FILENO, id, 2);
     note(b"): ");
-    note(word(causes, cause(side, fault, place), b'\n'));
-    note(b"\n");
+    note_line(causes, cause(side, fault, place));
 }
 
 // A refusal of reading, and its cause.

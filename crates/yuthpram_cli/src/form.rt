@@ -1,6 +1,7 @@
 // The text form of a record: lines of a name and a value. It becomes the image of the record, line by line, or a line is found that is amiss.
 ghost use Prim.Native.Nat.{_<_};
 use crate::out::note;
+use crate::out::note_line;
 use crate::out::note_number;
 use crate::rows::ADDRESS_CID;
 use crate::rows::ADDRESS_FLAG;
@@ -163,10 +164,8 @@ fn put_family(line: &[u8], n: usize, out: &mut [u8], at: usize) -> bool
     if !put_ip(word(line, 1, b' '), n, out, at) {
         return false;
     }
-    if check::same(word(line, 2, b' '), b"port") {
-        return put_number(word(line, 3, b' '), 65535, out, at + n, 2);
-    }
-    put_number(word(line, 2, b' '), 65535, out, at + n, 2)
+    let k = 3 - position(b"port", 1, word(line, 2, b' '));
+    put_number(word(line, k, b' '), 65535, out, at + n, 2)
 }
 
 fn is_flag(value: &[u8]) -> bool {
@@ -196,7 +195,12 @@ fn put_value(row: usize, line: &[u8], out: &mut [u8]) -> usize {
         DISABLE_ACTIVE_MIGRATION | PREFERRED_ADDRESS | GREASE_QUIC_BIT => {
             unless(is_flag(value), FLAG)
         }
-        ORIGINAL_DST_CID | INITIAL_SRC_CID | RETRY_SRC_CID | ADDRESS_CID => put_counted(value, out, at, 20),
+        ORIGINAL_DST_CID | INITIAL_SRC_CID | RETRY_SRC_CID | ADDRESS_CID => put_counted(
+            value,
+            out,
+            at,
+            20,
+        ),
         RESERVED => put_reserved(line, out, at),
         ADDRESS_V4 => unless(put_family(line, 4, out, at), ADDRESS),
         ADDRESS_V6 => unless(put_family(line, 16, out, at), ADDRESS),
@@ -285,7 +289,6 @@ more than a value";
     note(b"yuthpram: line ");
     note_number(slip.line as u64);
     note(b": ");
-    note(word(complaints, what, b'\n'));
-    note(b"\n");
+    note_line(complaints, what);
     false
 }

@@ -6,7 +6,7 @@ use crate::out::say;
 fn usage(fd: i32) {
     io::write_all(
         fd,
-        b"usage, where SIDE is client or server: the side that reads the extension
+        b"yuthpram: the transport parameter extension of QUIC. SIDE is client or server: the side that reads it
   yuthpram read SIDE [HEX]             show what an extension says to SIDE
   yuthpram tidy SIDE [HEX]             write it anew in its shortest form
   yuthpram check SIDE [HEX]            tell whether SIDE accepts it
@@ -30,7 +30,6 @@ pub fn note_surplus() -> Status {
 }
 
 pub fn say_help() -> Status {
-    say(b"yuthpram: reads, writes and tidies the transport parameter extension (RFC 9000 section 18)\n\n");
     usage(libc::STDOUT_FILENO);
     say(
         b"

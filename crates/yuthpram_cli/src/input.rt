@@ -33,8 +33,12 @@ pub fn choice(i: usize, list: &[u8], n: usize) -> usize {
     position(list, n, &buffer[..m])
 }
 
-pub fn side_at(i: usize) -> SideWord {
-    match choice(i, b"client server", 2) {
+// The side that argument 2 names, if it is to name one.
+pub fn side_for(is_named: bool) -> SideWord {
+    if !is_named {
+        return SideWord::Is(Side::Client);
+    }
+    match choice(2, b"client server", 2) {
         0 => SideWord::Is(Side::Client),
         1 => SideWord::Is(Side::Server),
         _ => {
@@ -64,12 +68,9 @@ fn bad(text: &[u8]) -> Input {
 }
 
 fn too_long() -> Input {
-    bad(b"yuthpram: the input is over the limit of 65536 bytes, or of 262144 characters of hexadecimal\n")
-}
-
-fn surplus() -> Input {
-    help::note_surplus();
-    Input::Bad
+    bad(
+        b"yuthpram: the input is over the limit of 65536 bytes, or of 262144 characters of hexadecimal\n",
+    )
 }
 
 // Puts the arguments from `start` on at the front of `out`, a space after each.
@@ -144,24 +145,10 @@ fn hex_at(start: usize, out: &mut [u8]) -> Input {
     }
 }
 
-// The bytes that a command works on: raw from standard input, or in hexadecimal.
-pub fn bytes_at(start: usize, out: &mut [u8]) -> Input {
-    if choice(start, b"--raw", 1) != 0 {
-        return hex_at(start, out);
-    }
-    if is_followed(start) {
-        return surplus();
-    }
-    read_all(STDIN_FILENO, out)
-}
-
-// A record in text form, from the file that argument `i` names or from standard input.
-pub fn form_at(i: usize, out: &mut [u8]) -> Input {
+// The file that argument `i` names, or standard input.
+fn file_at(i: usize, out: &mut [u8]) -> Input {
     if os::arg_count() <= i {
         return read_all(STDIN_FILENO, out);
-    }
-    if is_followed(i) {
-        return surplus();
     }
     let mut path = io::buffer();
     let n = os::arg(i, &mut path);
@@ -173,4 +160,20 @@ pub fn form_at(i: usize, out: &mut [u8]) -> Input {
     let got = read_all(fd, out);
     libc::close(fd);
     got
+}
+
+// What a command works on, by its words from `start` on: a record in text form, raw bytes from standard input, or hexadecimal text.
+pub fn input_at(start: usize, is_form: bool, out: &mut [u8]) -> Input {
+    let is_raw = choice(start, b"--raw", 1) == 0;
+    if !is_form && !is_raw {
+        return hex_at(start, out);
+    }
+    if is_followed(start) {
+        help::note_surplus();
+        return Input::Bad;
+    }
+    if is_form {
+        return file_at(start, out);
+    }
+    read_all(STDIN_FILENO, out)
 }

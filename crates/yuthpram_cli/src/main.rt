@@ -15,7 +15,6 @@ use input::choice;
 use input::first;
 use input::is_followed;
 use out::Status;
-use rules::Side;
 use text::DecimalText;
 
 // Where the wrapper learns how the program ended, which has no exit status of its own.
@@ -32,61 +31,50 @@ const WRITE: usize = 3;
 
 const NUMBER: usize = 4;
 
-fn number_command() -> Status {
-    if choice(2, b"--write", 1) == 0 {
-        if is_followed(3) {
-            return help::note_surplus();
-        }
-        let mut digits = [0u8; 32];
-        let n = os::arg(3, &mut digits);
-        return match text::parse_decimal(&digits[..n]) {
-            DecimalText::Number(x) => answers::encode(x),
-            DecimalText::Strange => help::misused(b"yuthpram: not a decimal number\n"),
-        };
+fn encode_command() -> Status {
+    if is_followed(3) {
+        return help::note_surplus();
     }
-    let mut src = io::large_buffer();
-    let Input::Bytes(n) = input::bytes_at(2, &mut src) else {
-        return Status::Misused;
-    };
-    answers::decode(first(n, &src))
+    let mut digits = [0u8; 32];
+    let n = os::arg(3, &mut digits);
+    match text::parse_decimal(&digits[..n]) {
+        DecimalText::Number(x) => answers::encode(x),
+        DecimalText::Strange => help::misused(b"yuthpram: not a decimal number\n"),
+    }
 }
 
-fn write_command() -> Status {
-    let mut text = io::large_buffer();
-    let Input::Bytes(n) = input::form_at(2, &mut text) else {
-        return Status::Misused;
-    };
-    answers::write(first(n, &text))
-}
-
-// Checks a record in text form.
-fn record_command(side: Side) -> Status {
-    let mut text = io::large_buffer();
-    let Input::Bytes(n) = input::form_at(4, &mut text) else {
-        return Status::Misused;
-    };
-    answers::check_record(side, first(n, &text))
-}
-
-// The commands that name a side.
-fn side_command(command: usize) -> Status {
-    let SideWord::Is(side) = input::side_at(2) else {
-        return Status::Misused;
-    };
+// Where the words of a command's input start: behind its side, if it names one, and behind --record.
+fn start_of(command: usize) -> usize {
+    if CHECK < command {
+        return 2;
+    }
     if command == CHECK {
         if choice(3, b"--record", 1) == 0 {
-            return record_command(side);
+            return 4;
         }
     }
-    let mut src = io::large_buffer();
-    let Input::Bytes(n) = input::bytes_at(3, &mut src) else {
+    3
+}
+
+// The commands that take an input.
+fn operate(command: usize) -> Status {
+    let SideWord::Is(side) = input::side_for(command <= CHECK) else {
         return Status::Misused;
     };
-    let extension = first(n, &src);
-    if command == TIDY {
-        return answers::tidy(side, extension);
+    let start = start_of(command);
+    let is_record = start == 4;
+    let mut src = io::large_buffer();
+    let Input::Bytes(n) = input::input_at(start, is_record || command == WRITE, &mut src) else {
+        return Status::Misused;
+    };
+    let bytes = first(n, &src);
+    match command {
+        READ => answers::read(side, bytes, true),
+        TIDY => answers::tidy(side, bytes),
+        CHECK => answers::check(side, bytes, is_record),
+        WRITE => answers::write(bytes),
+        _ => answers::decode(bytes),
     }
-    answers::read(side, extension, command == READ)
 }
 
 fn run() -> Status {
@@ -94,21 +82,25 @@ fn run() -> Status {
         return help::say_help();
     }
     let command = choice(1, b"read tidy check write number --help -h", 7);
-    if command <= CHECK {
-        return side_command(command);
+    if command == NUMBER {
+        if choice(2, b"--write", 1) == 0 {
+            return encode_command();
+        }
     }
-    match command {
-        WRITE => write_command(),
-        NUMBER => number_command(),
-        7 => help::misused(b"yuthpram: no such command\n"),
-        _ => help::say_help(),
+    if command <= NUMBER {
+        return operate(command);
     }
+    if command == 7 {
+        return help::misused(b"yuthpram: no such command\n");
+    }
+    help::say_help()
 }
 
 fn main() {
-    match run() {
-        Status::Answered => io::write_all(STATUS_FILENO, b"0"),
-        Status::Refused => io::write_all(STATUS_FILENO, b"1"),
-        Status::Misused => io::write_all(STATUS_FILENO, b"2"),
+    let status = match run() {
+        Status::Answered => b'0',
+        Status::Refused => b'1',
+        Status::Misused => b'2',
     };
+    io::write_all(STATUS_FILENO, &[status]);
 }

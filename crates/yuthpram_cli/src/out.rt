@@ -1,5 +1,6 @@
 // Printing. What a command answers goes to standard output, everything else to standard error; and how a command ends.
 use crate::text::byte;
+use crate::text::word;
 use libc::STDERR_FILENO;
 use libc::STDOUT_FILENO;
 
@@ -30,6 +31,12 @@ pub fn say_hex(bytes: &[u8], at: usize, n: usize) {
 
 pub fn note(text: &[u8]) {
     io::write_all(STDERR_FILENO, text);
+}
+
+// Line `k` of some lines.
+pub fn note_line(lines: &[u8], k: usize) {
+    note(word(lines, k, b'\n'));
+    note(b"\n");
 }
 
 pub fn note_number(n: u64) {

@@ -36,7 +36,32 @@ pub const ADDRESS_FLAG: usize = 191;
 // Where the value of each row starts in the image of a record. What may be absent has a flag before it; the ID and the token of an address have
 // the address's.
 const VALUE_AT: [u16; ROWS] = [
-    0, 8, 16, 24, 32, 40, 48, 56, 64, 72, 80, 256, 175, 89, 91, 192, 109, 131, 153, 90, 100, 193, 200, 218, 239, 282,
+    0,
+    8,
+    16,
+    24,
+    32,
+    40,
+    48,
+    56,
+    64,
+    72,
+    80,
+    256,
+    175,
+    89,
+    91,
+    192,
+    109,
+    131,
+    153,
+    90,
+    100,
+    193,
+    200,
+    218,
+    239,
+    282,
 ];
 
 fn wide(x: u16) -> usize
