@@ -9,8 +9,8 @@ fn number(image: &Image, at: usize) -> VarInt {
 }
 
 fn reserved(image: &Image) -> ReservedTransportParameter {
-    let payload = image[265..281].try_into().expect("16 bytes");
-    ReservedTransportParameter { id: number(image, 256), payload, payload_len: image[264] }
+    let payload = &image[265..265 + image[264] as usize];
+    ReservedTransportParameter::new(number(image, 256), payload).expect("a reserved parameter")
 }
 
 /// The record of an image: what is read in the sample's bytes, and what a sample's image has besides, which are the three delays, a reserved

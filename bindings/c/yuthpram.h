@@ -1,15 +1,10 @@
 /* Transport parameters of QUIC (RFC 9000, RFC 9221, RFC 9287, draft-ietf-quic-ack-frequency-08): the C interface of Yuthpram.
  *
- * Every function takes any bytes, numbers and lengths, allocates nothing, keeps nothing, and returns 0 or the number of a refusal.
- * A call that is refused changes no byte behind its pointers. A pointer and its length name a slice; inputs and outputs of one call
- * do not overlap; a pointer is not null, even where the length is 0.
+ * Every function takes any bytes, numbers and lengths, allocates nothing, keeps nothing, and returns YUTHPRAM_OK, which is 0, or the
+ * number of a refusal. A call that is refused changes no byte behind its pointers.
  *
- * Refusals: 1 malformed extension or connection ID, 2 illegal value, 3 the input ends within a number, 4 a number of 2^62 or more,
- * 5 the output is shorter than the bytes due, 6 an order that is not a permutation of 0 to 20, 7 a record or connection ID that is not
- * well formed (also an image of another length), 8 a remembered limit was reduced, 9 a drawn value out of range.
- * 1 and 2 travel as TRANSPORT_PARAMETER_ERROR (0x08), 8 as PROTOCOL_VIOLATION (0x0a).
- *
- * A side is 0 for a client and anything else for a server.
+ * A pointer and its length name a slice, and the pointer may be null if the length is 0. A pointer to a single number is never null. Inputs
+ * and outputs of one call do not overlap.
  */
 #ifndef YUTHPRAM_H
 #define YUTHPRAM_H
@@ -21,10 +16,50 @@
 extern "C" {
 #endif
 
-/* The image of a connection ID: its length, then its bytes, then zeros. */
-#define YUTHPRAM_CID_SIZE 21
+/* The refusals: name, number, meaning. MALFORMED and ILLEGAL_VALUE travel as TRANSPORT_PARAMETER_ERROR (0x08), LIMIT_REDUCED as
+ * PROTOCOL_VIOLATION (0x0a). */
+#define YUTHPRAM_REFUSALS(X) \
+    X(MALFORMED, 1, "malformed extension or connection ID") \
+    X(ILLEGAL_VALUE, 2, "illegal value") \
+    X(UNEXPECTED_END, 3, "the input ends within a number") \
+    X(VARINT_BOUNDS_EXCEEDED, 4, "a number of 2^62 or more") \
+    X(BUFFER_TOO_SHORT, 5, "the output is shorter than the bytes due") \
+    X(INVALID_ORDER, 6, "an order that is not a permutation of 0 to 20") \
+    X(ILL_FORMED, 7, "a record or connection ID that is not well formed, or no image") \
+    X(LIMIT_REDUCED, 8, "a remembered limit was reduced") \
+    X(INVALID_DRAW, 9, "a drawn value out of range")
 
-/* The image of a record. Numbers have the high byte first; a flag is 0 or 1; what is absent is all zero.
+enum {
+    YUTHPRAM_OK = 0,
+#define YUTHPRAM_NAMED(name, number, meaning) YUTHPRAM_##name = number,
+    YUTHPRAM_REFUSALS(YUTHPRAM_NAMED)
+#undef YUTHPRAM_NAMED
+};
+
+/* What a function returned, in words. */
+static inline const char *yuthpram_strerror(uint8_t refusal)
+{
+    switch (refusal) {
+    case YUTHPRAM_OK:
+        return "accepted";
+#define YUTHPRAM_TOLD(name, number, meaning) \
+    case number: \
+        return meaning;
+        YUTHPRAM_REFUSALS(YUTHPRAM_TOLD)
+#undef YUTHPRAM_TOLD
+    default:
+        return "no refusal";
+    }
+}
+
+/* A side is the one that READS the extension, for which the value rules differ: a server may not be sent what only a server sends. So a
+ * server that checks the record it is about to send asks for YUTHPRAM_CLIENT. Any other number but 0 is a server too. */
+enum { YUTHPRAM_CLIENT = 0, YUTHPRAM_SERVER = 1 };
+
+/* IMAGES: how records and connection IDs are passed.
+ *
+ * The image of a connection ID has 21 bytes: its length, then its bytes, then zeros. The image of a record has 303. Numbers have the high
+ * byte first; a flag is 0 or 1; what is absent is all zero.
  *   0  the eleven numbers of catalogue places 0 to 10, eight bytes each: max_idle_timeout, max_udp_payload_size, initial_max_data,
  *      initial_max_stream_data_bidi_local, _bidi_remote, _uni, initial_max_streams_bidi, _uni, ack_delay_exponent, max_ack_delay,
  *      active_connection_id_limit
@@ -40,31 +75,40 @@ extern "C" {
  *      bytes, port (two bytes); connection ID, 21 bytes; token, 16 bytes
  * 255  grease_transport_parameter (reserved): presence (flag), identifier (eight bytes), payload length (one byte), payload (16 bytes)
  * 281  write_order: presence (flag), 21 places
+ *
+ * Bytes are no image if they have another length, if one of the 13 flags is neither 0 nor 1, or if max_datagram_frame_size or min_ack_delay
+ * is absent and not 0. Every function that takes an image refuses such bytes with ILL_FORMED, before it looks at anything else but the
+ * settings of yuthpram_new.
+ *
+ * Whether what an image holds is well formed (numbers below 2^62, IDs of at most 20 bytes, zeros behind them and in whatever is absent) is
+ * another matter. Checking, writing, building and resumption look at it, and refuse with the same number; yuthpram_issue_cids_limit does not.
  */
+#define YUTHPRAM_CID_SIZE 21
 #define YUTHPRAM_RECORD_SIZE 303
 
 /* The longest extension of a well-formed record. */
 #define YUTHPRAM_MAX_EXTENSION 314
 
-/* What building takes besides a connection ID and drawn values. */
+/* What building takes besides a connection ID and drawn values: an array of YUTHPRAM_SETTINGS numbers. Of a yes or no, 0 is no and any
+ * other number, of 2^62 or more too, is yes. */
 enum {
-    YUTHPRAM_MAX_CONCURRENT_BIDI_STREAMS,
-    YUTHPRAM_MAX_CONCURRENT_UNI_STREAMS,
-    YUTHPRAM_RECEIVE_WINDOW,
-    YUTHPRAM_STREAM_RECEIVE_WINDOW,
-    YUTHPRAM_MAX_IDLE_TIMEOUT,             /* milliseconds, 0 for none */
-    YUTHPRAM_MAX_UDP_PAYLOAD_SIZE,
-    YUTHPRAM_GREASE_QUIC_BIT,              /* 0: no */
-    YUTHPRAM_DATAGRAMS,                    /* 0: no datagram_receive_buffer_size */
-    YUTHPRAM_DATAGRAM_RECEIVE_BUFFER_SIZE,
-    YUTHPRAM_CID_LEN,                      /* the generator's ID length */
-    YUTHPRAM_SERVER,                       /* 0: client */
-    YUTHPRAM_MIGRATION,                    /* 0: a server forbids it */
+    YUTHPRAM_SETTING_MAX_CONCURRENT_BIDI_STREAMS,
+    YUTHPRAM_SETTING_MAX_CONCURRENT_UNI_STREAMS,
+    YUTHPRAM_SETTING_RECEIVE_WINDOW,
+    YUTHPRAM_SETTING_STREAM_RECEIVE_WINDOW,
+    YUTHPRAM_SETTING_MAX_IDLE_TIMEOUT, /* milliseconds, 0 for none */
+    YUTHPRAM_SETTING_MAX_UDP_PAYLOAD_SIZE,
+    YUTHPRAM_SETTING_GREASE_QUIC_BIT, /* yes or no */
+    YUTHPRAM_SETTING_DATAGRAMS, /* yes or no: whether there is a datagram_receive_buffer_size */
+    YUTHPRAM_SETTING_DATAGRAM_RECEIVE_BUFFER_SIZE,
+    YUTHPRAM_SETTING_CID_LEN, /* the generator's ID length */
+    YUTHPRAM_SETTING_SERVER, /* yes or no: whether a server builds the record, to send it to a client */
+    YUTHPRAM_SETTING_MIGRATION, /* yes or no: no if a server forbids it */
     YUTHPRAM_SETTINGS
 };
 
-/* How many bytes the shortest form of a number has; 8 for one of 2^62 or more, which has none. */
-uint8_t yuthpram_number_size(uint64_t value);
+/* How many bytes the shortest form of a number has. Refuses 4. */
+uint8_t yuthpram_number_size(uint64_t value, size_t *count);
 
 /* The number at the front of src and its byte count. Refuses 3. */
 uint8_t yuthpram_number_read(const uint8_t *src, size_t src_len, uint64_t *value, size_t *count);
@@ -82,10 +126,10 @@ uint8_t yuthpram_cid_write(const uint8_t *cid, size_t cid_len, uint8_t *out, siz
 /* The image of the default record. Refuses 5 if record_len is below 303. */
 uint8_t yuthpram_default(uint8_t *record, size_t record_len);
 
-/* Checks a record for a side. Refuses 7, then 2. */
+/* Checks a record for the side that is to read it: a server checks its own record for YUTHPRAM_CLIENT. Refuses 7, then 2. */
 uint8_t yuthpram_check(const uint8_t *record, size_t record_len, uint8_t side);
 
-/* Reads an extension for a side. Refuses 1 or 2, then 5 if record_len is below 303. */
+/* Reads an extension for the side that reads. Refuses 1 or 2, then 5 if record_len is below 303. */
 uint8_t yuthpram_read(uint8_t side, const uint8_t *src, size_t src_len, uint8_t *record, size_t record_len);
 
 /* Whether an order is a permutation of 0 to 20. Refuses 6. */
@@ -94,7 +138,7 @@ uint8_t yuthpram_check_order(const uint8_t *order, size_t order_len);
 /* Writes the extension of a record, in its order or, without one, in catalogue order. Refuses 7, 6, then 5. */
 uint8_t yuthpram_write(const uint8_t *record, size_t record_len, uint8_t *out, size_t out_len, size_t *count);
 
-/* Reads an extension for a side and writes it in its one shortest form. Refuses 1 or 2, then 5. */
+/* Reads an extension for the side that reads, and writes it in its one shortest form. Refuses 1 or 2, then 5. */
 uint8_t yuthpram_tidy(uint8_t side, const uint8_t *src, size_t src_len, uint8_t *out, size_t out_len, size_t *count);
 
 /* Builds a record to send, of YUTHPRAM_SETTINGS settings, the image of initial_src_cid, the draw for the reserved identifier, the
@@ -107,7 +151,7 @@ uint8_t yuthpram_new(const uint64_t *settings, size_t settings_len, const uint8_
 /* Whether a record may be resumed to from a cached one. Refuses 7, then 8. */
 uint8_t yuthpram_validate_resumption_from(const uint8_t *record, size_t record_len, const uint8_t *cached, size_t cached_len);
 
-/* How many connection IDs to issue to the peer of a record. Refuses 7 for what is no image. */
+/* How many connection IDs to issue to the peer of a record, well formed or not. Refuses 7 for what is no image. */
 uint8_t yuthpram_issue_cids_limit(const uint8_t *record, size_t record_len, uint64_t *limit);
 
 #ifdef __cplusplus

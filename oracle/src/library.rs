@@ -3,7 +3,7 @@
 use crate::answer::{Answer, Case, MOST, Op};
 
 unsafe extern "C" {
-    fn yuthpram_number_size(value: u64) -> u8;
+    fn yuthpram_number_size(value: u64, count: *mut usize) -> u8;
     fn yuthpram_number_read(src: *const u8, src_len: usize, value: *mut u64, count: *mut usize) -> u8;
     fn yuthpram_number_write(value: u64, out: *mut u8, out_len: usize, count: *mut usize) -> u8;
     fn yuthpram_cid_read(src: *const u8, src_len: usize, cid: *mut u8, cid_len: usize, count: *mut usize) -> u8;
@@ -33,8 +33,7 @@ unsafe extern "C" {
 
 /// How many bytes the shortest form of a number has.
 unsafe fn number_size(value: u64, count: *mut usize) -> u8 {
-    unsafe { *count = yuthpram_number_size(value) as usize };
-    0
+    unsafe { yuthpram_number_size(value, count) }
 }
 
 /// The bytes before and behind the longest output, which are lent to no call.

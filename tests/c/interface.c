@@ -72,13 +72,15 @@ static void numbers(void)
     for (size_t i = 0; i < 8; i++) {
         uint64_t back = 0;
         size_t read = 0;
-        CHECK(yuthpram_number_size(values[i]) == sizes[i]);
+        ACCEPTS(yuthpram_number_size(values[i], &count));
+        CHECK(count == sizes[i]);
         ACCEPTS(yuthpram_number_write(values[i], out, sizes[i], &count));
         CHECK(count == sizes[i] && kept(count));
         CHECK(yuthpram_number_read(out, sizes[i], &back, &read) == 0 && back == values[i] && read == count);
         REFUSES(5, yuthpram_number_write(values[i], out, sizes[i] - 1u, &count));
     }
-    CHECK(yuthpram_number_size(BOUND) == 8 && yuthpram_number_size(UINT64_MAX) == 8);
+    REFUSES(YUTHPRAM_VARINT_BOUNDS_EXCEEDED, yuthpram_number_size(BOUND, &count));
+    REFUSES(YUTHPRAM_VARINT_BOUNDS_EXCEEDED, yuthpram_number_size(UINT64_MAX, &count));
     REFUSES(4, yuthpram_number_write(BOUND, out, 8, &count));
     REFUSES(4, yuthpram_number_write(UINT64_MAX, out, 0, &count));
 
@@ -109,6 +111,22 @@ static void connection_ids(void)
     uint8_t long_one[CID] = { 21 }, tail[CID] = { 3, 7, 8, 9, 1 };
     REFUSES(7, yuthpram_cid_write(long_one, CID, out, 9, &count));
     REFUSES(7, yuthpram_cid_write(tail, CID, out, 0, &count));
+}
+
+// Every refusal has its number, and words of its own.
+static void refusals(void)
+{
+    static const uint8_t numbers[] = {
+        YUTHPRAM_OK, YUTHPRAM_MALFORMED, YUTHPRAM_ILLEGAL_VALUE, YUTHPRAM_UNEXPECTED_END, YUTHPRAM_VARINT_BOUNDS_EXCEEDED,
+        YUTHPRAM_BUFFER_TOO_SHORT, YUTHPRAM_INVALID_ORDER, YUTHPRAM_ILL_FORMED, YUTHPRAM_LIMIT_REDUCED, YUTHPRAM_INVALID_DRAW, 10,
+    };
+    for (uint8_t i = 0; i < sizeof numbers; i++) {
+        CHECK(numbers[i] == i);
+        for (uint8_t j = 0; j < i; j++)
+            CHECK(strcmp(yuthpram_strerror(i), yuthpram_strerror(j)) != 0);
+    }
+    CHECK(strcmp(yuthpram_strerror(YUTHPRAM_ILLEGAL_VALUE), "illegal value") == 0);
+    CHECK(strcmp(yuthpram_strerror(10), yuthpram_strerror(255)) == 0);
 }
 
 // The image of the default record.
@@ -158,8 +176,9 @@ static void checking(void)
     put(image, 64, 21); // ack_delay_exponent
     CHECK(yuthpram_check(image, RECORD, 0) == 2);
     default_record(image);
-    image[174] = 1; // a token is not sent to a server
-    CHECK(yuthpram_check(image, RECORD, 0) == 0 && yuthpram_check(image, RECORD, 1) == 2 && yuthpram_check(image, RECORD, 255) == 2);
+    image[174] = 1; // a token, which a server sends: it checks its record for the client that reads it
+    CHECK(yuthpram_check(image, RECORD, YUTHPRAM_CLIENT) == YUTHPRAM_OK);
+    CHECK(yuthpram_check(image, RECORD, YUTHPRAM_SERVER) == YUTHPRAM_ILLEGAL_VALUE && yuthpram_check(image, RECORD, 255) == 2);
     image[174] = 0;
     image[175] = 1;
     CHECK(yuthpram_check(image, RECORD, 0) == 7);
@@ -286,12 +305,12 @@ static void not_building(void)
     REFUSES(9, yuthpram_new(settings, n, cid, CID, 0, payload, 16, order, 21, out, RECORD));
     REFUSES(6, yuthpram_new(settings, n, cid, CID, 0, payload, 0, order, 20, out, RECORD));
     REFUSES(5, yuthpram_new(settings, n, cid, CID, 0, payload, 0, order, 21, out, RECORD - 1));
-    settings[YUTHPRAM_DATAGRAM_RECEIVE_BUFFER_SIZE] = settings[YUTHPRAM_CID_LEN] = UINT64_MAX;
+    settings[YUTHPRAM_SETTING_DATAGRAM_RECEIVE_BUFFER_SIZE] = settings[YUTHPRAM_SETTING_CID_LEN] = UINT64_MAX;
     ACCEPTS(yuthpram_new(settings, n, cid, CID, 0, payload, 0, order, 21, out, RECORD));
     CHECK(out[90] == 0 && get(out, 80) == 5);
-    settings[YUTHPRAM_RECEIVE_WINDOW] = BOUND;
+    settings[YUTHPRAM_SETTING_RECEIVE_WINDOW] = BOUND;
     REFUSES(4, yuthpram_new(settings, n, cid, CID - 1, BOUND, payload, 16, order, 0, out, 0));
-    settings[YUTHPRAM_RECEIVE_WINDOW] = 0;
+    settings[YUTHPRAM_SETTING_RECEIVE_WINDOW] = 0;
     cid[0] = 1;
     REFUSES(7, yuthpram_new(settings, n, cid, CID, BOUND, payload, 16, order, 0, out, 0));
 }
@@ -315,13 +334,97 @@ static void resumption(void)
     put(image, 80, 9);
     ACCEPTS(yuthpram_issue_cids_limit(image, RECORD, &value));
     CHECK(value == 8);
+    put(image, 0, BOUND); // not well formed, and an image all the same
+    ACCEPTS(yuthpram_issue_cids_limit(image, RECORD, &value));
+    CHECK(value == 8);
     REFUSES(7, yuthpram_issue_cids_limit(image, RECORD - 1, &value));
-    image[88] = 2;
-    REFUSES(7, yuthpram_issue_cids_limit(image, RECORD, &value));
+}
+
+// What is no image is 7 in every function that takes one.
+static void no_images(void)
+{
+    static const size_t at[] = { 88, 89, 90, 99, 108, 130, 152, 174, 191, 192, 199, 255, 281, 98, 107 };
+    uint8_t image[RECORD], good[RECORD];
+    default_record(good);
+    for (size_t i = 0; i < sizeof at / sizeof *at; i++) {
+        default_record(image);
+        image[at[i]] = 2; // a flag, or the last byte of a number that is absent
+        REFUSES(YUTHPRAM_ILL_FORMED, yuthpram_check(image, RECORD, YUTHPRAM_CLIENT));
+        REFUSES(YUTHPRAM_ILL_FORMED, yuthpram_write(image, RECORD, out, sizeof out, &count));
+        REFUSES(YUTHPRAM_ILL_FORMED, yuthpram_validate_resumption_from(image, RECORD, good, RECORD));
+        REFUSES(YUTHPRAM_ILL_FORMED, yuthpram_validate_resumption_from(good, RECORD, image, RECORD));
+        REFUSES(YUTHPRAM_ILL_FORMED, yuthpram_issue_cids_limit(image, RECORD, &value));
+    }
+}
+
+// A null pointer names the slice of no bytes: as an input, and as an output that has no room.
+static void nothing(void)
+{
+    static const uint8_t src[] = { 1, 1, 5 }, cid[CID] = { 1, 9 };
+    const uint64_t settings[YUTHPRAM_SETTINGS] = { 0 };
+    uint8_t image[RECORD], order[21];
+    default_record(image);
+    backwards(order);
+    REFUSES(3, yuthpram_number_read(NULL, 0, &value, &count));
+    REFUSES(5, yuthpram_number_write(5, NULL, 0, &count));
+    REFUSES(4, yuthpram_number_write(BOUND, NULL, 0, &count));
+    REFUSES(1, yuthpram_cid_read(NULL, 0, out, CID, &count));
+    REFUSES(1, yuthpram_cid_read(NULL, 0, NULL, 0, &count));
+    REFUSES(5, yuthpram_cid_read(cid, 2, NULL, 0, &count));
+    REFUSES(7, yuthpram_cid_write(NULL, 0, out, sizeof out, &count));
+    REFUSES(5, yuthpram_cid_write(cid, CID, NULL, 0, &count));
+    REFUSES(5, yuthpram_default(NULL, 0));
+    REFUSES(7, yuthpram_check(NULL, 0, YUTHPRAM_CLIENT));
+    ACCEPTS(yuthpram_read(YUTHPRAM_SERVER, NULL, 0, out, RECORD));
+    CHECK(memcmp(out, image, RECORD) == 0 && kept(RECORD));
+    REFUSES(5, yuthpram_read(YUTHPRAM_SERVER, NULL, 0, NULL, 0));
+    REFUSES(5, yuthpram_read(YUTHPRAM_SERVER, src, 3, NULL, 0));
+    REFUSES(6, yuthpram_check_order(NULL, 0));
+    REFUSES(7, yuthpram_write(NULL, 0, out, sizeof out, &count));
+    ACCEPTS(yuthpram_write(image, RECORD, NULL, 0, &count));
+    CHECK(count == 0);
+    put(image, 0, 5);
+    REFUSES(5, yuthpram_write(image, RECORD, NULL, 0, &count));
+    ACCEPTS(yuthpram_tidy(YUTHPRAM_CLIENT, NULL, 0, NULL, 0, &count));
+    CHECK(count == 0);
+    REFUSES(5, yuthpram_tidy(YUTHPRAM_CLIENT, src, 3, NULL, 0, &count));
+    REFUSES(7, yuthpram_new(NULL, 0, cid, CID, 0, NULL, 0, order, 21, out, RECORD));
+    REFUSES(7, yuthpram_new(settings, YUTHPRAM_SETTINGS, NULL, 0, 0, NULL, 0, order, 21, out, RECORD));
+    ACCEPTS(yuthpram_new(settings, YUTHPRAM_SETTINGS, cid, CID, 0, NULL, 0, order, 21, out, RECORD));
+    CHECK(out[255] == 1 && out[264] == 0 && kept(RECORD));
+    REFUSES(6, yuthpram_new(settings, YUTHPRAM_SETTINGS, cid, CID, 0, NULL, 0, NULL, 0, out, RECORD));
+    REFUSES(5, yuthpram_new(settings, YUTHPRAM_SETTINGS, cid, CID, 0, NULL, 0, order, 21, NULL, 0));
+    REFUSES(7, yuthpram_validate_resumption_from(NULL, 0, image, RECORD));
+    REFUSES(7, yuthpram_validate_resumption_from(image, RECORD, NULL, 0));
+    REFUSES(7, yuthpram_issue_cids_limit(NULL, 0, &value));
+}
+
+// Of a yes or no, every number but 0 is yes.
+static void yes_or_no(void)
+{
+    static const size_t at[] = {
+        YUTHPRAM_SETTING_GREASE_QUIC_BIT, YUTHPRAM_SETTING_DATAGRAMS, YUTHPRAM_SETTING_SERVER, YUTHPRAM_SETTING_MIGRATION,
+    };
+    static const uint64_t yes[] = { 2, 256, BOUND, UINT64_MAX };
+    static const uint8_t cid[CID] = { 1, 9 };
+    uint8_t order[21], image[RECORD];
+    backwards(order);
+    for (size_t i = 0; i < 4; i++) {
+        uint64_t settings[YUTHPRAM_SETTINGS] = { 0 };
+        settings[YUTHPRAM_SETTING_SERVER] = 1;
+        settings[at[i]] = 1;
+        ACCEPTS(yuthpram_new(settings, YUTHPRAM_SETTINGS, cid, CID, 0, NULL, 0, order, 21, image, RECORD));
+        for (size_t j = 0; j < 4; j++) {
+            settings[at[i]] = yes[j];
+            ACCEPTS(yuthpram_new(settings, YUTHPRAM_SETTINGS, cid, CID, 0, NULL, 0, order, 21, out, RECORD));
+            CHECK(memcmp(out, image, RECORD) == 0);
+        }
+    }
 }
 
 int main(void)
 {
+    refusals();
     numbers();
     connection_ids();
     defaults();
@@ -333,6 +436,9 @@ int main(void)
     building();
     not_building();
     resumption();
+    no_images();
+    nothing();
+    yes_or_no();
     printf("%d passed, %d failed\n", passed, failed);
     return failed != 0;
 }

@@ -4,7 +4,7 @@ pub const CID_SIZE: usize = 21;
 pub const SETTINGS: usize = 12;
 
 extern "C" {
-    fn yuthpram_number_size(value: u64) -> u8;
+    fn yuthpram_number_size(value: u64, count: *mut usize) -> u8;
     pub fn yuthpram_number_read(src: *const u8, src_len: usize, value: *mut u64, count: *mut usize) -> u8;
     pub fn yuthpram_number_write(value: u64, out: *mut u8, out_len: usize, count: *mut usize) -> u8;
     pub fn yuthpram_cid_read(src: *const u8, src_len: usize, cid: *mut u8, cid_len: usize, count: *mut usize) -> u8;
@@ -35,5 +35,7 @@ extern "C" {
 
 /// How many bytes the shortest form of a number below 2^62 has.
 pub fn number_size(value: u64) -> usize {
-    unsafe { yuthpram_number_size(value) as usize }
+    let mut count = 0;
+    unsafe { yuthpram_number_size(value, &mut count) };
+    count
 }

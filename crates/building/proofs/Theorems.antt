@@ -1,7 +1,5 @@
 -- What holds of a record that is built. Assumes nothing.
 --     built-sound      it is well formed, has the order handed in, a permutation, and a reserved identifier
---     built-written    writing it stores its parameters in that order, or the buffer is too short
---     built-accepted   so writing it refuses by no other number than 5
 use Prim.Native.Nat.{ℕ, zero, suc, _+_, _-_, _%_, _^_, _<_, _≤_, min}
 use mathlib.Core.Path.{_≡_, refl, ap, sym, _∙_}
 use mathlib.Core.List.{List, [], _∷_, _++_}
@@ -28,7 +26,6 @@ use Rattle.words.specs.Words.{every}
 use Rattle.record.specs.Record.{least, formedOptional, formedOptionalCid, formedOptionalToken, formedAddress, formedReserved, formedOrder, wellFormed, defaultRecord}
 use Rattle.record.proofs.Records as Places
 use Rattle.order.specs.Order.{permutation}
-use Rattle.writer.specs.Writing.{orderOf, extension, write}
 use Rattle.building.specs.declared.Settings.{Settings}
 use Rattle.building.specs.Building.{sentSettings, settingsFit, idLimit, cutSize, numbersFrom, drawFits, reservedId, reservedFrom, orderFrom, recordFrom, build}
 use Rattle.building.proofs.Answers.{draw-facts, order-length}
@@ -155,14 +152,14 @@ record-formed s cid draw payload order r p =
 
 pub record Sound (order : List ℕ) (r : TransportParameters) : Type 0 where
   pub formed : wellFormed r ≡ true
-  pub order-kept : orderOf (r .«write_order») ≡ order
+  pub order-kept : r .«write_order» ≡ orderFrom order
   pub ordered : permutation order ≡ true
   pub reserved : r .«grease_transport_parameter» .id % 31 ≡ 27
   pub below : r .«grease_transport_parameter» .id < 2 ^ 62
 
 module _ (s : Settings) (cid : ConnectionId) (draw : ℕ) (payload order : List ℕ) (r : TransportParameters) (h : build s cid draw payload order ≡ accepted r) where
   pub built-sound : Sound order r
-  unfolding recordFrom reservedFrom orderFrom orderOf
+  unfolding recordFrom reservedFrom
   built-sound =
       let p = passed s cid draw payload order r h in
       record {
@@ -172,15 +169,3 @@ module _ (s : Settings) (cid : ConnectionId) (draw : ℕ) (payload order : List 
         reserved = rw (← p .is) (id-reserved draw);
         below = rw (← p .is) (id-below draw (draw-facts draw payload (p .drawn) .0));
       }
-
-  pub built-written : (out : List ℕ) → write r out ≡ store (extension r order) out
-  unfolding write
-  built-written out = rw (built-sound .formed, built-sound .order-kept, built-sound .ordered)
-
-  pub built-accepted : (out : List ℕ) (n : ℕ) → write r out .0 ≡ refused n → n ≡ 5
-  unfolding store
-  built-accepted out n e = go (leb (length (extension r order)) (length out)) (sym (ap (λ (w : Outcome ℕ × List ℕ). w .0) (built-written out)) ∙ e)
-    where
-      go : (t : Bool) → pick {A = Outcome ℕ × List ℕ} t (accepted (length (extension r order)), front (extension r order) out) (refused 5, out) .0 ≡ refused n → n ≡ 5
-      go true k = let z : _≡_ {A = ℕ} 0 1 = cc in absurd (omega arith)
-      go false k = cc

@@ -1,3 +1,4 @@
 pub mod AnyOrder
 pub mod Written
 pub mod Theorem
+pub mod Built

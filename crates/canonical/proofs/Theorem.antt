@@ -17,7 +17,7 @@ use Rattle.record.specs.Values.{Bytes}
 use Rattle.record.specs.Record.{wellFormed, bare}
 use Rattle.rules.specs.Rules.{legal}
 use Rattle.reader.specs.Reading.{read}
-use Rattle.reader.proofs.Laws.{accepted-legal, same-record, unknown-skipped}
+use Rattle.reader.proofs.Laws.{accepted-legal, same-record, whole, once, unknown-skipped}
 use Rattle.writer.specs.Writing.{extension, orderOf, write}
 use Rattle.order.specs.Order.{permutation, catalogueOrder}
 use Rattle.tidy.specs.Tidying.{tidyFrom, tidy}
@@ -122,6 +122,8 @@ pub demand : Demand
 demand =
     record {
       readsBack = reads-back;
+      whole = whole;
+      once = once;
       unknownSkipped = unknown-skipped;
       tidies = can-be-tidied;
       canonical = same-bytes;

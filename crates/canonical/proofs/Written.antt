@@ -27,7 +27,7 @@ use Rattle.record.proofs.KindLaws.{IfSome, Sound}
 use Rattle.catalogue.proofs.Places.{place-of-id, id-lt, reserved-unknown}
 use Rattle.record.proofs.Records.{valuesOf-none, Families, sound, back, Good, sizeAt, short}
 use Rattle.reader.specs.Reading.{receive, step, parse, judge, read}
-use Rattle.reader.proofs.Front.{front-parameter}
+use Rattle.front.proofs.Front.{front-parameter}
 use Rattle.reader.proofs.Run.{parse-front, step-unknown, upd-at}
 use Rattle.reader.proofs.Grow.{total, grown}
 use Rattle.reader.proofs.Laws.{accepts, accepted-legal}

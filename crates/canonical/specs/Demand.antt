@@ -1,6 +1,6 @@
 -- Demand 3, in one piece. Reading, writing and tidying an extension belong together:
 --   - what is written of a record that is legal for a side, in the order and with the reserved parameter given, that side reads back;
---   - whole parameters that are unknown, put in anywhere, change nothing;
+--   - what a side accepts is made of whole parameters, in one way; and whole parameters that are unknown, put in anywhere, change nothing;
 --   - what a side accepts can be tidied, to bytes with the same record;
 --   - two extensions are tidied to the same bytes exactly if they have the same record;
 --   - tidied bytes are tidied to themselves;
@@ -19,7 +19,7 @@ use Rattle.record.specs.Values.{Bytes}
 use Rattle.rules.specs.Rules.{legal}
 use Rattle.record.specs.Record.{bare}
 use Rattle.reader.specs.Reading.{read}
-use Rattle.reader.specs.Whole.{Inserted, concat}
+use Rattle.front.specs.Whole.{concat, Wholes, Composed, Stuffed}
 use Rattle.order.specs.Order.{permutation}
 use Rattle.writer.specs.Writing.{orderOf, extension, write}
 use Rattle.tidy.specs.Tidying.{tidy}
@@ -38,8 +38,11 @@ pub record Demand : Type 0 where
   pub readsBack :
       (s : Side) (r : TransportParameters) (out : List ℕ) → legal s r ≡ true → permutation (orderOf (r .«write_order»)) ≡ true
       → length (extension r (orderOf (r .«write_order»))) ≤ length out → Accepts (write r out) (λ n out′. read s (take n out′) ≡ accepted (bare r))
-  -- the outcome is the same, be it a record or a refusal
-  pub unknownSkipped : (s : Side) (ws ws′ : List (List ℕ)) → Inserted ws ws′ → read s (concat ws′) ≡ read s (concat ws)
+  -- the whole parameters of an extension that a side accepts, and no others
+  pub whole : (s : Side) (e : List ℕ) (r : TransportParameters) → read s e ≡ accepted r → Composed e
+  pub once : (ws ws′ : List (List ℕ)) → Wholes ws → Wholes ws′ → concat ws ≡ concat ws′ → ws ≡ ws′
+  -- bytes e, and the same with unknown whole parameters put in: the outcome is the same, be it a record or a refusal
+  pub unknownSkipped : (s : Side) (e e′ : List ℕ) → Stuffed e e′ → read s e′ ≡ read s e
   -- what a side accepts is tidied if the buffer is as long as the extension, and the tidied bytes read as the same record
   pub tidies :
       (s : Side) (e out : List ℕ) (r : TransportParameters) → Bytes e → read s e ≡ accepted r → length e ≤ length out

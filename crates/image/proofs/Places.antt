@@ -1,28 +1,28 @@
--- Bytes stored at a place, and numbers and flags at a place. Assumes nothing.
+-- Bytes, numbers and flags at a place. Assumes nothing.
 --     sets-append    bytes stored, and more behind them
 --     stored-then    the same of two stores
 --     one-more       a turn of the loop that stores bytes
---     over-all       bytes stored over as many others
---     number-more    a turn of the loop that reads a number
---     number-room    a number of i bytes is below 256 ^ i
---     flags-from     a turn of the loop that tests the flags
-use Prim.Native.Nat.{ℕ, zero, suc, _+_, _-_, _*_, _^_, _≤_, _<_}
+--     reach, inside, within   room in 303 bytes
+--     bytes-part     n bytes, copied over n others
+--     number-eight, number-two    a number by its bytes
+--     flags-more     a turn of the loop that tests the flags
+use Prim.Native.Nat.{ℕ, zero, suc, _+_, _-_, _*_, _≤_, _<_}
 use mathlib.Core.Path.{_≡_, refl, ap₂, sym, _∙_}
 use mathlib.Core.List.{List, [], _∷_, _++_, append-nil}
 use mathlib.Core.Bool.{Bool, true, false, _&&_}
-use native.Mathlib.Nat.{add-zero, pow-le-pow-right}
+use native.Mathlib.Nat.{add-zero}
 use native.Mathlib.Numerals.{add-one}
 use native.Mathlib.Omega.{arith}
 use lib.ListN.{length, getD, take, drop, set, length-drop, drop-of-length-le}
-use lib.Seq.{sets, sets-eq, take-suc, drop-cons, length-take-le, getD-drop}
-use lib.Dec.{leb, ltb}
-use borrow.Author.Tests.{ltb-true, le-leb, lt-leb}
+use lib.Seq.{sets, sets-eq, take-suc, drop-cons, length-take-le}
+use lib.Dec.{T, leb, ltb, lit≤, lit<}
+use lib.Bits.{bitOr, bitAnd, or-lt, or-add-and, and-le-l, and-le-r}
+use borrow.Author.Tests.{ltb-true, le-leb, lt-leb, leb-true, leb-false, eqb-true}
+use Rattle.refusal.proofs.Laws.{all-at}
 use Rattle.varint.specs.Number.{valueFrom}
-use Rattle.varint.proofs.Bytes.{value-lt}
-use Rattle.record.specs.Values.{Bytes}
-use Rattle.words.specs.Words.{every}
-use Rattle.record.proofs.Bytes.{bytes-drop, bytes-take}
-use Rattle.image.specs.Image.{part, numberAt, flagPlaces, flagsHold}
+use Rattle.words.specs.Words.{every, wordOf}
+use Rattle.words.proofs.Laws.{every-at, and-assoc, and-true}
+use Rattle.image.specs.Image.{part, numberAt, flagPlaces, flagsHold, isImage}
 
 -- STORES
 pub sets-append : (l : List ℕ) (at : ℕ) (xs ys : List ℕ) → sets l at (xs ++ ys) ≡ sets (sets l at xs) (at + length xs) ys
@@ -39,78 +39,87 @@ one-more l v out at i h e =
     let n : length (take i v) ≡ i = length-take-le i v (omega arith) in
     rw (add-one, take-suc v i 0 h, sets-append l at (take i v) (getD v i 0 ∷ []), n, e)
 
-pub over-all : (l v : List ℕ) → length l ≡ length v → sets l 0 v ≡ v
-over-all l v h =
-    let d : drop (0 + length v) l ≡ [] = drop-of-length-le l {i = 0 + length v} (omega arith) in
-    sets-eq v l 0 (omega arith) ∙ rw d (append-nil v)
+-- ROOM, of 303 bytes at least: up to a place, at a place, and for n bytes at a place of a buffer whose length stayed
+pub reach : {a n : ℕ} → T (leb a 303) → 303 ≤ n → a ≤ n
+reach {a} {n} t h = let k : a ≤ 303 = lit≤ t in omega arith
 
--- NUMBERS
-value-snoc : (a b : ℕ) (bs : List ℕ) → valueFrom a (bs ++ (b ∷ [])) ≡ valueFrom a bs * 256 + b
-value-snoc a b [] = refl
-value-snoc a b (x ∷ bs) = value-snoc (a * 256 + x) b bs
+pub inside : {a n : ℕ} → T (ltb a 303) → 303 ≤ n → a < n
+inside {a} {n} t h = let k : a < 303 = lit< t in omega arith
 
-pub number-more : (s : List ℕ) (at i x b : ℕ) → at + i < length s → x ≡ numberAt at i s → b ≡ getD s (at + i) 0 → x * 256 + b ≡ numberAt at (i + 1) s
-number-more s at i x b h e f =
-    let l : i < length (drop at s) = rw length-drop (omega arith) in
-    rw (add-one, take-suc (drop at s) i 0 l, value-snoc 0 (getD (drop at s) i 0) (take i (drop at s)), getD-drop at s i 0, e, f)
-
-pub number-room : (s : List ℕ) (at i x : ℕ) → Bytes s → at + i ≤ length s → x ≡ numberAt at i s → x < 256 ^ i
-number-room s at i x hb h e =
-    let l : length (part at i s) ≡ i = length-take-le i (drop at s) (rw length-drop (omega arith)) in
-    let v = rw l at (value-lt (part at i s) 0 1 (bytes-take i (drop at s) (bytes-drop at s hb)) (omega arith)) in
-    rw e (omega (arith, v))
-
-pub byte-room : (x i : ℕ) → x < 256 ^ i → i < 8 → x < 2 ^ 56
-byte-room x i h l = let p : 256 ^ i ≤ 256 ^ 7 = pow-le-pow-right (omega arith) {i = i} {j = 7} (omega arith) in omega arith
-
--- FLAGS
-every-false : (f : ℕ → Bool) (l : List ℕ) (i : ℕ) → i < length l → f (getD l i 0) ≡ false → every f (drop i l) ≡ false
-every-false f l i h e = rw (drop-cons l i 0 h, e)
-
-every-true : (f : ℕ → Bool) (l : List ℕ) (i : ℕ) → i < length l → f (getD l i 0) ≡ true → every f (drop i l) ≡ every f (drop (suc i) l)
-every-true f l i h e = rw (drop-cons l i 0 h, e)
-
-every-at : (f : ℕ → Bool) (l : List ℕ) (i : ℕ) → every f l ≡ true → i < length l → f (getD l i 0) ≡ true
-every-at f [] i e h = absurd (omega arith)
-every-at f (x ∷ l) zero e h = head (f x) (every f l) e
-  where
-    head : (a b : Bool) → (a && b) ≡ true → a ≡ true
-    head true b e = refl
-    head false b e = e
-every-at f (x ∷ l) (suc i) e h = every-at f l i (tail (f x) (every f l) e) (omega arith)
-  where
-    tail : (a b : Bool) → (a && b) ≡ true → b ≡ true
-    tail true b e = e
-    tail false b e = let z : _≡_ {A = ℕ} 0 1 = cc in absurd (omega arith)
-
--- the flags from the i-th on
-pub flagsFrom : List ℕ → ℕ → Bool
-flagsFrom s i = every (λ p. leb (getD s p 0) 1) (drop i flagPlaces)
-
-module _ (s : List ℕ) (i : ℕ) (h : i < 13) where
-  pub flag-place : getD flagPlaces i 0 < 303
-  unfolding flagPlaces
-  flag-place = ltb-true _ _ (every-at (λ p. ltb p 303) flagPlaces i refl h)
-
-  pub flag-more : 1 < getD s (getD flagPlaces i 0) 0 → flagsFrom s i ≡ false
-  unfolding flagPlaces flagsFrom
-  flag-more k = every-false (λ p. leb (getD s p 0) 1) flagPlaces i h (lt-leb _ _ k)
-
-  pub flag-holds : getD s (getD flagPlaces i 0) 0 ≤ 1 → flagsFrom s i ≡ flagsFrom s (i + 1)
-  unfolding flagPlaces flagsFrom
-  flag-holds k = rw add-one (every-true (λ p. leb (getD s p 0) 1) flagPlaces i h (le-leb _ _ k))
-
-pub flags-all : (s : List ℕ) → flagsFrom s 0 ≡ flagsHold s
-unfolding flagsFrom flagsHold
-flags-all s = refl
-
-pub flags-none : (s : List ℕ) (i : ℕ) → i ≡ 13 → flagsFrom s i ≡ true
-unfolding flagsFrom flagPlaces
-flags-none s i e = rw e
+pub within : (a : ℕ) {n m k l : ℕ} → n ≡ m → k ≡ l → 303 ≤ l → T (leb (a + m) 303) → a + n ≤ k
+within a {n} {m} {k} {l} e f h t = let i : a + m ≤ 303 = lit≤ t in omega arith
 
 -- n bytes of s, copied over n others
 pub bytes-part : (n at : ℕ) (s z b : List ℕ) → at + n ≤ length s → length z ≡ n → b ≡ sets z 0 (take (at + n - at) (drop at s)) → b ≡ part at n s
 bytes-part n at s z b h l e =
     let d : at + n - at ≡ n = omega arith in
-    let k : length z ≡ length (part at n s) = l ∙ sym (length-take-le n (drop at s) (rw length-drop (omega arith))) in
-    e ∙ rw d (over-all z (part at n s) k)
+    let k : length (part at n s) ≡ n = length-take-le n (drop at s) (rw length-drop (omega arith)) in
+    let t : drop (0 + length (part at n s)) z ≡ [] = drop-of-length-le z {i = 0 + length (part at n s)} (omega arith) in
+    e ∙ rw d (sets-eq (part at n s) z 0 (omega arith) ∙ rw t (append-nil (part at n s)))
+
+-- NUMBERS
+module _ (s : List ℕ) (at : ℕ) where
+  -- n bytes from the k-th on, after the number a
+  abbrev gathered : ℕ → ℕ → ℕ → ℕ
+  gathered zero k a = a
+  gathered (suc n) k a = gathered n (suc k) (a * 256 + getD s (at + k) 0)
+
+  value-gathered : (n k a : ℕ) → at + k + n ≤ length s → valueFrom a (take n (drop (at + k) s)) ≡ gathered n k a
+  value-gathered zero k a h = refl
+  value-gathered (suc n) k a h =
+      let e : suc (at + k) ≡ at + suc k = omega arith in
+      rw (drop-cons s (at + k) 0 (omega arith), e) (value-gathered n (suc k) (a * 256 + getD s (at + k) 0) (omega arith))
+
+  number-gathered : (n : ℕ) → at + n ≤ length s → numberAt at n s ≡ gathered n 0 0
+  number-gathered n h = let e : at + 0 ≡ at = omega arith in rw e at (value-gathered n 0 0 (omega arith))
+
+  pub number-eight : at + 8 ≤ length s
+      → wordOf (getD s (at + 7) 0 ∷ getD s (at + 6) 0 ∷ getD s (at + 5) 0 ∷ getD s (at + 4) 0 ∷ getD s (at + 3) 0 ∷ getD s (at + 2) 0 ∷ getD s (at + 1) 0 ∷ getD s at 0 ∷ [])
+      ≡ numberAt at 8 s
+  number-eight h = let e : at + 0 ≡ at = omega arith in let g = rw e at (number-gathered 8 h) in omega (arith, g)
+
+  pub number-two : at + 2 ≤ length s → wordOf (getD s (at + 1) 0 ∷ getD s at 0 ∷ []) ≡ numberAt at 2 s
+  number-two h = let e : at + 0 ≡ at = omega arith in let g = rw e at (number-gathered 2 h) in omega (arith, g)
+
+-- FLAGS: those met are joined in acc, and the rest stand from the i-th place on
+or-flags : (a b : ℕ) → leb (bitOr a b) 1 ≡ (leb a 1 && leb b 1)
+or-flags a b = go (leb a 1) refl (leb b 1) refl
+  where
+    sum : bitOr a b + bitAnd a b ≡ a + b
+    sum = or-add-and a b
+
+    go : (s : Bool) → leb a 1 ≡ s → (t : Bool) → leb b 1 ≡ t → leb (bitOr a b) 1 ≡ (s && t)
+    go true e true f =
+        let x : a < 2 = omega (arith, leb-true a 1 e) in
+        let y : b < 2 = omega (arith, leb-true b 1 f) in
+        let z : bitOr a b < 2 = or-lt 1 a b x y in
+        le-leb (bitOr a b) 1 (omega arith)
+    go true e false f = lt-leb (bitOr a b) 1 (omega (arith, sum, leb-false b 1 f, and-le-l a b))
+    go false e t f = lt-leb (bitOr a b) 1 (omega (arith, sum, leb-false a 1 e, and-le-r a b))
+
+pub flagsFrom : List ℕ → ℕ → ℕ → Bool
+flagsFrom s acc i = leb acc 1 && every (λ p. leb (getD s p 0) 1) (drop i flagPlaces)
+
+module _ (s : List ℕ) (acc i : ℕ) where
+  pub flag-place : i < 13 → getD flagPlaces i 0 < 303
+  unfolding flagPlaces
+  flag-place h = ltb-true _ _ (every-at (λ p. ltb p 303) flagPlaces refl i h)
+
+  pub flags-more : i < 13 → flagsFrom s (bitOr acc (getD s (getD flagPlaces i 0) 0)) (i + 1) ≡ flagsFrom s acc i
+  unfolding flagPlaces flagsFrom
+  flags-more h =
+      rw (add-one, drop-cons flagPlaces i 0 h, or-flags acc (getD s (getD flagPlaces i 0) 0))
+      (sym (and-assoc (leb acc 1) (leb (getD s (getD flagPlaces i 0) 0) 1) (every (λ p. leb (getD s p 0) 1) (drop (suc i) flagPlaces))))
+
+  pub flags-none : i ≡ 13 → flagsFrom s acc i ≡ leb acc 1
+  unfolding flagsFrom flagPlaces
+  flags-none e = rw e (and-true (leb acc 1))
+
+pub flags-all : (s : List ℕ) → flagsFrom s 0 0 ≡ flagsHold s
+unfolding flagsFrom flagsHold
+flags-all s = refl
+
+-- what is an image has 303 bytes
+pub image-long : (s : List ℕ) → isImage s ≡ true → length s ≡ 303
+unfolding isImage
+image-long s h = eqb-true _ _ (all-at _ h 0)

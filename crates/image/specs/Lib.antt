@@ -1,2 +1,1 @@
 pub mod Image
-pub mod Answer

@@ -1,17 +1,16 @@
 // The images of records and connection IDs, in 303 and 21 bytes: the form in which the C interface passes them.
 ghost use mathlib.Core.Path.{_≡_};
-ghost use mathlib.Core.Bool.{_&&_};
 ghost use mathlib.Core.List.{[], _∷_};
-ghost use Prim.Native.Nat.{_+_, _%_, _^_, _≤_, _<_};
+ghost use Prim.Native.Nat.{_+_, _%_, _≤_, _<_};
 ghost use lib.ListN.{length};
 ghost use lib.Seq.{sets};
+ghost use Rattle.refusal.specs.Answer.{countOutcome, answerOutcome, settledBy};
 ghost use Rattle.refusal.specs.Outcome.{store};
-ghost use Rattle.varint.specs.Number.{bytesOf};
-ghost use Rattle.image.specs.Image.{part, flagByte, flagAt, numberAt, eightBytes, numbersImage, numbersAt, isPresent, optionalImage, optionalAt, cidImage, cidAt, optionalCidImage, optionalCidAt, tokenImage, tokenAt, familyImage, familyAt, addressImage, addressAt, reservedImage, reservedAt, orderImage, orderAt, joined, frontParts, idParts, restParts, imageOf, recordAt, flagsHold, zeroIfAbsent, recordFrom, cidFrom};
-ghost use Rattle.image.specs.Answer.{recordOutcome, cidOutcome, settledRecord, settledCid, refusedRecord};
-ghost use Rattle.refusal.specs.Answer.{countOutcome};
-ghost use Rattle.record.specs.Values.{toV4, toV6, ofV4, ofV6};
-ghost use Rattle.record.specs.Record.{least};
+ghost use Rattle.connection_id.specs.ConnectionId.{cidOf};
+ghost use Rattle.record.specs.Record.{isPresent, least, defaultRecord};
+ghost use Rattle.image.specs.Image.{recordSize, part, flagByte, flagAt, numberAt, eightBytes, numbersImage, numbersAt, optionalAt, cidImage, cidAt, optionalCidParts, optionalCidAt, familyParts, addressParts, addressAt, joined, frontParts, idParts, restParts, imageOf, recordAt, flagsHold, zeroIfAbsent, isImage, recordFrom, cidFrom};
+use catalogue::NUMBERS;
+use catalogue::PLACES;
 use connection_id::ConnectionId;
 use record::OptionalConnectionId;
 use record::OptionalNumber;
@@ -23,13 +22,13 @@ use record::SocketAddrV4;
 use record::SocketAddrV6;
 use record::TransportParameters;
 use record::WriteOrder;
+use refusal::Answer;
+use refusal::Counted;
 use refusal::Refusal;
-
-// Whether bytes are an image.
-pub enum Answer {
-    Accepted,
-    Refused(Refusal),
-}
+use words::and;
+use words::or;
+use words::word2;
+use words::word8;
 
 // The answer, and the record: the default one if refused.
 pub struct ImagedRecord {
@@ -43,12 +42,6 @@ pub struct ImagedCid {
     pub cid: ConnectionId,
 }
 
-// What storing an image gives: how many bytes it stored.
-pub enum Stored {
-    Count(usize),
-    Refused(Refusal),
-}
-
 // The sizes of the images, in bytes.
 pub const RECORD_SIZE: usize = 303;
 
@@ -56,25 +49,6 @@ pub const CID_SIZE: usize = 21;
 
 // Where the flags stand in the image of a record.
 const FLAGS: [usize; 13] = [88, 89, 90, 99, 108, 130, 152, 174, 191, 192, 199, 255, 281];
-
-fn and(a: bool, b: bool) -> bool
-    ensures { λ r. ⌜ r ≡ (a && b) ⌝ }
-{
-    if a { b } else { false }
-}
-
-fn wide(x: u8) -> u64
-    ensures { λ r. ⌜ r ≡ x ⌝ }
-{
-    x as u64
-}
-
-// The low byte of a number.
-fn low(x: u64) -> u8
-    ensures { λ r. ⌜ r ≡ x % 256 ⌝ }
-{
-    (x % 256) as u8
-}
 
 // Stores bytes at a place of `out`.
 fn put_bytes(bytes: &[u8], at: usize, out: &mut [u8])
@@ -89,25 +63,28 @@ fn put_bytes(bytes: &[u8], at: usize, out: &mut [u8])
 }
 
 // READING AN IMAGE
-// The number of n bytes, at most eight, at a place.
-fn number_at(s: &[u8], at: usize, n: usize) -> u64
-    requires { ⌜ (n ≤ 8) × (at + n ≤ length (now s)) ⌝ }
-    ensures { λ r. ⌜ (r ≡ numberAt at n (now (s .entry))) × (r < 256 ^ n) ⌝ }
+// The number of eight bytes at a place, high byte first. The compiler makes one load of them.
+fn number_at(s: &[u8], at: usize) -> u64
+    requires { ⌜ at + 8 ≤ length (now s) ⌝ }
+    ensures { λ r. ⌜ r ≡ numberAt at 8 (now (s .entry)) ⌝ }
 {
-    let mut x: u64 = 0;
-    let mut i: usize = 0;
-    while i < n {
-        x = x * 256 + wide(s[at + i]);
-        i += 1;
-    }
-    x
+    word8(
+        s[at + 7],
+        s[at + 6],
+        s[at + 5],
+        s[at + 4],
+        s[at + 3],
+        s[at + 2],
+        s[at + 1],
+        s[at],
+    )
 }
 
 fn port_at(s: &[u8], at: usize) -> u16
     requires { ⌜ at + 2 ≤ length (now s) ⌝ }
     ensures { λ r. ⌜ r ≡ numberAt at 2 (now (s .entry)) ⌝ }
 {
-    number_at(s, at, 2) as u16
+    word2(s[at + 1], s[at]) as u16
 }
 
 fn flag_at(s: &[u8], at: usize) -> bool
@@ -148,41 +125,43 @@ fn bytes20_at(s: &[u8], at: usize) -> [u8; 20]
     bytes
 }
 
-fn bytes21_at(s: &[u8], at: usize) -> [u8; 21]
+fn places_at(s: &[u8], at: usize) -> [u8; PLACES]
     requires { ⌜ at + 21 ≤ length (now s) ⌝ }
     ensures { λ r. ⌜ r ≡ part at 21 (now (s .entry)) ⌝ }
 {
-    let mut bytes = [0u8; 21];
-    let end = at + 21;
+    let mut bytes = [0u8; PLACES];
+    let end = at + PLACES;
     put_bytes(&s[at..end], 0, &mut bytes);
     bytes
 }
 
-fn numbers_at(s: &[u8]) -> [u64; 11]
-    requires { ⌜ 88 ≤ length (now s) ⌝ }
+fn numbers_at(s: &[u8]) -> [u64; NUMBERS]
+    requires { ⌜ recordSize ≤ length (now s) ⌝ }
     ensures { λ r. ⌜ r ≡ numbersAt 11 0 (now (s .entry)) ⌝ }
 {
     [
-        number_at(s, 0, 8),
-        number_at(s, 8, 8),
-        number_at(s, 16, 8),
-        number_at(s, 24, 8),
-        number_at(s, 32, 8),
-        number_at(s, 40, 8),
-        number_at(s, 48, 8),
-        number_at(s, 56, 8),
-        number_at(s, 64, 8),
-        number_at(s, 72, 8),
-        number_at(s, 80, 8),
+        number_at(s, 0),
+        number_at(s, 8),
+        number_at(s, 16),
+        number_at(s, 24),
+        number_at(s, 32),
+        number_at(s, 40),
+        number_at(s, 48),
+        number_at(s, 56),
+        number_at(s, 64),
+        number_at(s, 72),
+        number_at(s, 80),
     ]
 }
 
+// The number is loaded whether it is there or not.
 fn optional_at(s: &[u8], at: usize) -> OptionalNumber
     requires { ⌜ at + 9 ≤ length (now s) ⌝ }
     ensures { λ r. ⌜ r ≡ optionalAt at (now (s .entry)) ⌝ }
 {
+    let x = number_at(s, at + 1);
     if flag_at(s, at) {
-        OptionalNumber::Present(number_at(s, at + 1, 8))
+        OptionalNumber::Present(x)
     } else {
         OptionalNumber::Absent
     }
@@ -207,94 +186,43 @@ fn optional_cid_at(s: &[u8], at: usize) -> OptionalConnectionId
     }
 }
 
-fn token_at(s: &[u8], at: usize) -> OptionalResetToken
-    requires { ⌜ at + 17 ≤ length (now s) ⌝ }
-    ensures { λ r. ⌜ r ≡ tokenAt at (now (s .entry)) ⌝ }
+fn address_at(s: &[u8]) -> PreferredAddress
+    requires { ⌜ recordSize ≤ length (now s) ⌝ }
+    ensures { λ r. ⌜ r ≡ addressAt (now (s .entry)) ⌝ }
 {
-    let bytes = bytes16_at(s, at + 1);
-    OptionalResetToken {
-        present: flag_at(s, at),
-        token: ResetToken { bytes },
-    }
-}
-
-fn v4_at(s: &[u8], at: usize) -> SocketAddrV4
-    requires { ⌜ at + 7 ≤ length (now s) ⌝ }
-    ensures { λ r. ⌜ r ≡ toV4 (familyAt 4 at (now (s .entry))) ⌝ }
-{
-    let ip = bytes4_at(s, at + 1);
-    SocketAddrV4 {
-        present: flag_at(s, at),
-        ip,
-        port: port_at(s, at + 5),
-    }
-}
-
-fn v6_at(s: &[u8], at: usize) -> SocketAddrV6
-    requires { ⌜ at + 19 ≤ length (now s) ⌝ }
-    ensures { λ r. ⌜ r ≡ toV6 (familyAt 16 at (now (s .entry))) ⌝ }
-{
-    let ip = bytes16_at(s, at + 1);
-    SocketAddrV6 {
-        present: flag_at(s, at),
-        ip,
-        port: port_at(s, at + 17),
-    }
-}
-
-fn address_at(s: &[u8], at: usize) -> PreferredAddress
-    requires { ⌜ at + 64 ≤ length (now s) ⌝ }
-    ensures { λ r. ⌜ r ≡ addressAt at (now (s .entry)) ⌝ }
-{
-    let address_v4 = v4_at(s, at + 1);
-    let address_v6 = v6_at(s, at + 8);
-    let connection_id = cid_at(s, at + 27);
-    let bytes = bytes16_at(s, at + 48);
+    let v4 = bytes4_at(s, 193);
+    let v6 = bytes16_at(s, 200);
+    let connection_id = cid_at(s, 218);
+    let bytes = bytes16_at(s, 239);
     PreferredAddress {
-        present: flag_at(s, at),
-        address_v4,
-        address_v6,
+        present: flag_at(s, 191),
+        address_v4: SocketAddrV4 {
+            present: flag_at(s, 192),
+            ip: v4,
+            port: port_at(s, 197),
+        },
+        address_v6: SocketAddrV6 {
+            present: flag_at(s, 199),
+            ip: v6,
+            port: port_at(s, 216),
+        },
         connection_id,
         stateless_reset_token: ResetToken { bytes },
     }
 }
 
-fn reserved_at(s: &[u8], at: usize) -> ReservedTransportParameter
-    requires { ⌜ at + 26 ≤ length (now s) ⌝ }
-    ensures { λ r. ⌜ r ≡ reservedAt at (now (s .entry)) ⌝ }
-{
-    let payload = bytes16_at(s, at + 10);
-    ReservedTransportParameter {
-        present: flag_at(s, at),
-        id: number_at(s, at + 1, 8),
-        payload,
-        payload_len: s[at + 9],
-    }
-}
-
-fn order_at(s: &[u8], at: usize) -> WriteOrder
-    requires { ⌜ at + 22 ≤ length (now s) ⌝ }
-    ensures { λ r. ⌜ r ≡ orderAt at (now (s .entry)) ⌝ }
-{
-    let places = bytes21_at(s, at + 1);
-    WriteOrder {
-        present: flag_at(s, at),
-        places,
-    }
-}
-
 fn record_at(s: &[u8]) -> TransportParameters
-    requires { ⌜ length (now s) ≡ 303 ⌝ }
+    requires { ⌜ recordSize ≤ length (now s) ⌝ }
     ensures { λ r. ⌜ r ≡ recordAt (now (s .entry)) ⌝ }
 {
     let numbers = numbers_at(s);
     let original_dst_cid = optional_cid_at(s, 108);
     let initial_src_cid = optional_cid_at(s, 130);
     let retry_src_cid = optional_cid_at(s, 152);
-    let stateless_reset_token = token_at(s, 174);
-    let preferred_address = address_at(s, 191);
-    let grease_transport_parameter = reserved_at(s, 255);
-    let write_order = order_at(s, 281);
+    let bytes = bytes16_at(s, 175);
+    let preferred_address = address_at(s);
+    let payload = bytes16_at(s, 265);
+    let places = places_at(s, 282);
     TransportParameters {
         numbers,
         disable_active_migration: flag_at(s, 88),
@@ -304,28 +232,38 @@ fn record_at(s: &[u8]) -> TransportParameters
         min_ack_delay: optional_at(s, 99),
         original_dst_cid,
         retry_src_cid,
-        stateless_reset_token,
+        stateless_reset_token: OptionalResetToken {
+            present: flag_at(s, 174),
+            token: ResetToken { bytes },
+        },
         preferred_address,
-        grease_transport_parameter,
-        write_order,
+        grease_transport_parameter: ReservedTransportParameter {
+            present: flag_at(s, 255),
+            id: number_at(s, 256),
+            payload,
+            payload_len: s[264],
+        },
+        write_order: WriteOrder {
+            present: flag_at(s, 281),
+            places,
+        },
     }
 }
 
 // Whether every flag is 0 or 1.
 fn flags_hold(s: &[u8]) -> bool
-    requires { ⌜ length (now s) ≡ 303 ⌝ }
+    requires { ⌜ recordSize ≤ length (now s) ⌝ }
     ensures { λ r. ⌜ r ≡ flagsHold (now (s .entry)) ⌝ }
 {
     let flags = FLAGS;
+    let mut acc: u8 = 0;
     let mut i: usize = 0;
     while i < 13 {
         let at = flags[i];
-        if 1 < s[at] {
-            return false;
-        }
+        acc = acc | s[at];
         i += 1;
     }
-    true
+    acc <= 1
 }
 
 // Whether a number that is absent is 0.
@@ -333,33 +271,31 @@ fn zero_if_absent(s: &[u8], at: usize) -> bool
     requires { ⌜ at + 9 ≤ length (now s) ⌝ }
     ensures { λ r. ⌜ r ≡ zeroIfAbsent at (now (s .entry)) ⌝ }
 {
-    if flag_at(s, at) {
-        return true;
-    }
-    number_at(s, at + 1, 8) == 0
+    or(flag_at(s, at), number_at(s, at + 1) == 0)
 }
 
-fn refuse() -> ImagedRecord
-    ensures { λ r. ⌜ r ≡ refusedRecord ⌝ }
+fn is_image(s: &[u8]) -> bool
+    ensures { λ r. ⌜ r ≡ isImage (now (s .entry)) ⌝ }
 {
-    ImagedRecord {
-        answer: Answer::Refused(Refusal::IllFormed),
-        parameters: TransportParameters::default(),
+    if s.len() != RECORD_SIZE {
+        return false;
     }
+    and(
+        flags_hold(s),
+        and(zero_if_absent(s, 90), zero_if_absent(s, 99)),
+    )
 }
 
 // The record of an image. What is carried over need not be well formed.
 pub fn record_from(image: &[u8]) -> ImagedRecord
-    ensures { λ r. ⌜ (recordOutcome r, r .parameters) ≡ settledRecord (recordFrom (now (image .entry))) ⌝ }
+    ensures { λ r. ⌜ (answerOutcome (r .parameters) (r .answer), r .parameters) ≡ settledBy defaultRecord (recordFrom (now (image .entry))) ⌝ }
 {
-    if image.len() != RECORD_SIZE {
-        return refuse();
-    }
-    if !and(
-        flags_hold(image),
-        and(zero_if_absent(image, 90), zero_if_absent(image, 99)),
-    ) {
-        return refuse();
+    if !is_image(image) {
+        let parameters = TransportParameters::default();
+        return ImagedRecord {
+            answer: Answer::Refused(Refusal::IllFormed),
+            parameters,
+        };
     }
     let parameters = record_at(image);
     ImagedRecord {
@@ -370,7 +306,7 @@ pub fn record_from(image: &[u8]) -> ImagedRecord
 
 // The connection ID of an image. It need not be well formed.
 pub fn cid_from(image: &[u8]) -> ImagedCid
-    ensures { λ r. ⌜ (cidOutcome r, r .cid) ≡ settledCid (cidFrom (now (image .entry))) ⌝ }
+    ensures { λ r. ⌜ (answerOutcome (r .cid) (r .answer), r .cid) ≡ settledBy (cidOf []) (cidFrom (now (image .entry))) ⌝ }
 {
     if image.len() != CID_SIZE {
         return ImagedCid {
@@ -392,14 +328,15 @@ fn flag_byte(b: bool) -> u8
     if b { 1 } else { 0 }
 }
 
-fn put_flag(b: bool, at: usize, out: &mut [u8])
-    requires { ⌜ at < length (now out) ⌝ }
-    ensures { λ r. ⌜ now (out .exit) ≡ sets (now (out .entry)) at (flagByte b ∷ []) ⌝ }
+// The low byte of a number.
+fn low(x: u64) -> u8
+    ensures { λ r. ⌜ r ≡ x % 256 ⌝ }
 {
-    out[at] = flag_byte(b);
+    (x % 256) as u8
 }
 
-fn bytes_of(x: u64) -> [u8; 8]
+// The eight bytes of a number, high byte first.
+fn bytes8(x: u64) -> [u8; 8]
     ensures { λ r. ⌜ r ≡ eightBytes x ⌝ }
 {
     [
@@ -414,172 +351,70 @@ fn bytes_of(x: u64) -> [u8; 8]
     ]
 }
 
-fn put_number(x: u64, at: usize, out: &mut [u8])
-    requires { ⌜ at + 8 ≤ length (now out) ⌝ }
-    ensures { λ r. ⌜ now (out .exit) ≡ sets (now (out .entry)) at (eightBytes x) ⌝ }
+// Stores a byte, a flag or a length, and what stands behind it.
+fn put_behind(first: u8, bytes: &[u8], at: usize, out: &mut [u8])
+    requires { ⌜ at + 1 + length (now bytes) ≤ length (now out) ⌝ }
+    ensures { λ r. ⌜ now (out .exit) ≡ sets (now (out .entry)) at (first ∷ now (bytes .entry)) ⌝ }
 {
-    let bytes = bytes_of(x);
-    put_bytes(&bytes, at, out);
+    out[at] = first;
+    put_bytes(bytes, at + 1, out);
 }
 
-fn put_numbers(numbers: &[u64; 11], out: &mut [u8])
-    requires { ⌜ (length (now numbers) ≡ 11) × (88 ≤ length (now out)) ⌝ }
+fn put_numbers(numbers: &[u64; NUMBERS], out: &mut [u8])
+    requires { ⌜ (length (now numbers) ≡ 11) × (recordSize ≤ length (now out)) ⌝ }
     ensures { λ r. ⌜ now (out .exit) ≡ sets (now (out .entry)) 0 (numbersImage (now (numbers .entry))) ⌝ }
 {
     let mut i: usize = 0;
-    while i < 11 {
-        put_number(numbers[i], i * 8, out);
+    while i < NUMBERS {
+        let bytes = bytes8(numbers[i]);
+        put_bytes(&bytes, i * 8, out);
         i += 1;
-    }
-}
-
-fn is_present(o: OptionalNumber) -> bool
-    ensures { λ r. ⌜ r ≡ isPresent o ⌝ }
-{
-    match o {
-        OptionalNumber::Absent => false,
-        OptionalNumber::Present(_) => true,
-    }
-}
-
-// The number, 0 if it is absent.
-fn number_in(o: OptionalNumber) -> u64
-    ensures { λ r. ⌜ r ≡ least o ⌝ }
-{
-    match o {
-        OptionalNumber::Absent => 0,
-        OptionalNumber::Present(x) => x,
     }
 }
 
 fn put_optional(o: OptionalNumber, at: usize, out: &mut [u8])
     requires { ⌜ at + 9 ≤ length (now out) ⌝ }
-    ensures { λ r. ⌜ now (out .exit) ≡ sets (now (out .entry)) at (optionalImage o) ⌝ }
+    ensures { λ r. ⌜ now (out .exit) ≡ sets (now (out .entry)) at (flagByte (isPresent o) ∷ eightBytes (least o)) ⌝ }
 {
-    put_flag(is_present(o), at, out);
-    put_number(number_in(o), at + 1, out);
-}
-
-fn put_cid(c: ConnectionId, at: usize, out: &mut [u8])
-    requires { ⌜ at + 21 ≤ length (now out) ⌝ }
-    ensures { λ r. ⌜ now (out .exit) ≡ sets (now (out .entry)) at (cidImage c) ⌝ }
-{
-    let bytes = c.bytes;
-    out[at] = c.len;
-    put_bytes(&bytes, at + 1, out);
+    let bytes = bytes8(o.or_zero());
+    put_behind(flag_byte(o.is_present()), &bytes, at, out);
 }
 
 fn put_optional_cid(o: OptionalConnectionId, at: usize, out: &mut [u8])
     requires { ⌜ at + 22 ≤ length (now out) ⌝ }
-    ensures { λ r. ⌜ now (out .exit) ≡ sets (now (out .entry)) at (optionalCidImage o) ⌝ }
+    ensures { λ r. ⌜ now (out .exit) ≡ sets (now (out .entry)) at (joined (optionalCidParts o)) ⌝ }
 {
-    let c = o.cid;
-    put_flag(o.present, at, out);
-    put_cid(c, at + 1, out);
-}
-
-fn put_token(o: OptionalResetToken, at: usize, out: &mut [u8])
-    requires { ⌜ at + 17 ≤ length (now out) ⌝ }
-    ensures { λ r. ⌜ now (out .exit) ≡ sets (now (out .entry)) at (tokenImage o) ⌝ }
-{
-    let t = o.token;
-    put_flag(o.present, at, out);
-    put_token_bytes(t, at + 1, out);
-}
-
-fn put_port(port: u16, at: usize, out: &mut [u8])
-    requires { ⌜ at + 2 ≤ length (now out) ⌝ }
-    ensures { λ r. ⌜ now (out .exit) ≡ sets (now (out .entry)) at (bytesOf 2 port) ⌝ }
-{
-    let port = port as u64;
-    out[at] = low(port >> 8);
-    out[at + 1] = low(port);
+    let bytes = o.cid.bytes;
+    out[at] = flag_byte(o.present);
+    put_behind(o.cid.len, &bytes, at + 1, out);
 }
 
 fn put_family(present: bool, ip: &[u8], port: u16, at: usize, out: &mut [u8])
-    requires { ⌜ at + length (now ip) + 3 ≤ length (now out) ⌝ }
-    ensures { λ r. ⌜ now (out .exit) ≡ sets (now (out .entry)) at (familyImage (present, now (ip .entry), port)) ⌝ }
+    requires { ⌜ at + 3 + length (now ip) ≤ length (now out) ⌝ }
+    ensures { λ r. ⌜ now (out .exit) ≡ sets (now (out .entry)) at (joined (familyParts (present, now (ip .entry), port))) ⌝ }
 {
     let end = at + 1 + ip.len();
-    put_flag(present, at, out);
-    put_bytes(ip, at + 1, out);
-    put_port(port, end, out);
+    let port = port as u64;
+    put_behind(flag_byte(present), ip, at, out);
+    out[end] = low(port >> 8);
+    out[end + 1] = low(port);
 }
 
-fn put_v4(a: SocketAddrV4, at: usize, out: &mut [u8])
-    requires { ⌜ at + 7 ≤ length (now out) ⌝ }
-    ensures { λ r. ⌜ now (out .exit) ≡ sets (now (out .entry)) at (familyImage (ofV4 a)) ⌝ }
-{
-    let ip = a.ip;
-    put_family(a.present, &ip, a.port, at, out);
-}
-
-fn put_v6(a: SocketAddrV6, at: usize, out: &mut [u8])
-    requires { ⌜ at + 19 ≤ length (now out) ⌝ }
-    ensures { λ r. ⌜ now (out .exit) ≡ sets (now (out .entry)) at (familyImage (ofV6 a)) ⌝ }
-{
-    let ip = a.ip;
-    put_family(a.present, &ip, a.port, at, out);
-}
-
-fn put_token_bytes(t: ResetToken, at: usize, out: &mut [u8])
-    requires { ⌜ at + 16 ≤ length (now out) ⌝ }
-    ensures { λ r. ⌜ now (out .exit) ≡ sets (now (out .entry)) at (t .bytes) ⌝ }
-{
-    let bytes = t.bytes;
-    put_bytes(&bytes, at, out);
-}
-
-fn put_address(a: PreferredAddress, at: usize, out: &mut [u8])
-    requires { ⌜ at + 64 ≤ length (now out) ⌝ }
-    ensures { λ r. ⌜ now (out .exit) ≡ sets (now (out .entry)) at (addressImage a) ⌝ }
-{
-    let v4 = a.address_v4;
-    let v6 = a.address_v6;
-    let c = a.connection_id;
-    let t = a.stateless_reset_token;
-    put_flag(a.present, at, out);
-    put_v4(v4, at + 1, out);
-    put_v6(v6, at + 8, out);
-    put_cid(c, at + 27, out);
-    put_token_bytes(t, at + 48, out);
-}
-
-fn put_reserved(x: ReservedTransportParameter, at: usize, out: &mut [u8])
-    requires { ⌜ at + 26 ≤ length (now out) ⌝ }
-    ensures { λ r. ⌜ now (out .exit) ≡ sets (now (out .entry)) at (reservedImage x) ⌝ }
-{
-    let payload = x.payload;
-    put_flag(x.present, at, out);
-    put_number(x.id, at + 1, out);
-    out[at + 9] = x.payload_len;
-    put_bytes(&payload, at + 10, out);
-}
-
-fn put_order(w: WriteOrder, at: usize, out: &mut [u8])
-    requires { ⌜ at + 22 ≤ length (now out) ⌝ }
-    ensures { λ r. ⌜ now (out .exit) ≡ sets (now (out .entry)) at (orderImage w) ⌝ }
-{
-    let places = w.places;
-    put_flag(w.present, at, out);
-    put_bytes(&places, at + 1, out);
-}
-
-// The parts of a record's image up to the datagram size and the delay, up to the token, and from the address on.
+// The parts of a record's image: up to the connection IDs, up to the address, the address, and from the reserved parameter on.
 fn put_front(
-    numbers: &[u64; 11],
+    numbers: &[u64; NUMBERS],
     migration: bool,
     grease: bool,
     size: OptionalNumber,
     delay: OptionalNumber,
     out: &mut [u8],
 )
-    requires { ⌜ (length (now numbers) ≡ 11) × (303 ≤ length (now out)) ⌝ }
+    requires { ⌜ (length (now numbers) ≡ 11) × (recordSize ≤ length (now out)) ⌝ }
     ensures { λ r. ⌜ now (out .exit) ≡ sets (now (out .entry)) 0 (joined (frontParts (now (numbers .entry)) migration grease size delay)) ⌝ }
 {
     put_numbers(numbers, out);
-    put_flag(migration, 88, out);
-    put_flag(grease, 89, out);
+    out[88] = flag_byte(migration);
+    out[89] = flag_byte(grease);
     put_optional(size, 90, out);
     put_optional(delay, 99, out);
 }
@@ -591,61 +426,81 @@ fn put_ids(
     token: OptionalResetToken,
     out: &mut [u8],
 )
-    requires { ⌜ 303 ≤ length (now out) ⌝ }
+    requires { ⌜ recordSize ≤ length (now out) ⌝ }
     ensures { λ r. ⌜ now (out .exit) ≡ sets (now (out .entry)) 108 (joined (idParts original initial retry token)) ⌝ }
 {
+    let bytes = token.token.bytes;
     put_optional_cid(original, 108, out);
     put_optional_cid(initial, 130, out);
     put_optional_cid(retry, 152, out);
-    put_token(token, 174, out);
+    put_behind(flag_byte(token.present), &bytes, 174, out);
 }
 
-fn put_rest(
-    address: PreferredAddress,
-    reserved: ReservedTransportParameter,
-    order: WriteOrder,
-    out: &mut [u8],
-)
-    requires { ⌜ 303 ≤ length (now out) ⌝ }
-    ensures { λ r. ⌜ now (out .exit) ≡ sets (now (out .entry)) 191 (joined (restParts address reserved order)) ⌝ }
+fn put_address(a: PreferredAddress, out: &mut [u8])
+    requires { ⌜ recordSize ≤ length (now out) ⌝ }
+    ensures { λ r. ⌜ now (out .exit) ≡ sets (now (out .entry)) 191 (joined (addressParts a)) ⌝ }
 {
-    put_address(address, 191, out);
-    put_reserved(reserved, 255, out);
-    put_order(order, 281, out);
+    let v4 = a.address_v4.ip;
+    let v6 = a.address_v6.ip;
+    let id = a.connection_id.bytes;
+    let token = a.stateless_reset_token.bytes;
+    out[191] = flag_byte(a.present);
+    put_family(a.address_v4.present, &v4, a.address_v4.port, 192, out);
+    put_family(a.address_v6.present, &v6, a.address_v6.port, 199, out);
+    put_behind(a.connection_id.len, &id, 218, out);
+    put_bytes(&token, 239, out);
+}
+
+fn put_rest(reserved: ReservedTransportParameter, order: WriteOrder, out: &mut [u8])
+    requires { ⌜ recordSize ≤ length (now out) ⌝ }
+    ensures { λ r. ⌜ now (out .exit) ≡ sets (now (out .entry)) 255 (joined (restParts reserved order)) ⌝ }
+{
+    let id = bytes8(reserved.id);
+    let payload = reserved.payload;
+    let places = order.places;
+    put_behind(flag_byte(reserved.present), &id, 255, out);
+    put_behind(reserved.payload_len, &payload, 264, out);
+    put_behind(flag_byte(order.present), &places, 281, out);
 }
 
 // Stores the image of a record at the front of `out`.
-pub fn image_to(r: TransportParameters, out: &mut [u8]) -> Stored
+pub fn image_to(r: TransportParameters, out: &mut [u8]) -> Counted
     ensures { λ a. ⌜ (countOutcome a, now (out .exit)) ≡ store (imageOf r) (now (out .entry)) ⌝ }
 {
     if out.len() < RECORD_SIZE {
-        return Stored::Refused(Refusal::BufferTooShort);
+        return Counted::Refused(Refusal::BufferTooShort);
     }
     let numbers = r.numbers;
-    let migration = r.disable_active_migration;
-    let grease = r.grease_quic_bit;
     let size = r.max_datagram_frame_size;
     let delay = r.min_ack_delay;
-    let original = r.original_dst_cid;
-    let initial = r.initial_src_cid;
-    let retry = r.retry_src_cid;
-    let token = r.stateless_reset_token;
-    let address = r.preferred_address;
-    let reserved = r.grease_transport_parameter;
-    let order = r.write_order;
-    put_front(&numbers, migration, grease, size, delay, out);
-    put_ids(original, initial, retry, token, out);
-    put_rest(address, reserved, order, out);
-    Stored::Count(RECORD_SIZE)
+    put_front(
+        &numbers,
+        r.disable_active_migration,
+        r.grease_quic_bit,
+        size,
+        delay,
+        out,
+    );
+    put_ids(
+        r.original_dst_cid,
+        r.initial_src_cid,
+        r.retry_src_cid,
+        r.stateless_reset_token,
+        out,
+    );
+    put_address(r.preferred_address, out);
+    put_rest(r.grease_transport_parameter, r.write_order, out);
+    Counted::Count(RECORD_SIZE)
 }
 
 // Stores the image of a connection ID at the front of `out`.
-pub fn cid_to(c: ConnectionId, out: &mut [u8]) -> Stored
+pub fn cid_to(c: ConnectionId, out: &mut [u8]) -> Counted
     ensures { λ a. ⌜ (countOutcome a, now (out .exit)) ≡ store (cidImage c) (now (out .entry)) ⌝ }
 {
     if out.len() < CID_SIZE {
-        return Stored::Refused(Refusal::BufferTooShort);
+        return Counted::Refused(Refusal::BufferTooShort);
     }
-    put_cid(c, 0, out);
-    Stored::Count(CID_SIZE)
+    let bytes = c.bytes;
+    put_behind(c.len, &bytes, 0, out);
+    Counted::Count(CID_SIZE)
 }

@@ -108,6 +108,12 @@ fn low(x: u64) -> u8 {
     (x % 256) as u8
 }
 
+fn number_size(value: u64) -> Called {
+    let mut count = UNTOUCHED as usize;
+    let code = yuthpram::yuthpram_number_size(value, &mut count);
+    storing(code, count as u64)
+}
+
 fn number_read(x: &[u8]) -> Called {
     let mut value = UNTOUCHED;
     let mut count = UNTOUCHED as usize;
@@ -199,7 +205,7 @@ fn plain(code: u8) -> Called {
 fn call(op: u8, number: u64, x: &[u8], y: &[u8], z: &[u8], w: &[u8], out: &mut [u8]) -> Called {
     let side = low(number);
     match op {
-        0 => storing(0, wide(yuthpram::yuthpram_number_size(number))),
+        0 => number_size(number),
         1 => number_read(x),
         2 => number_write(number, out),
         3 => cid_read(x, out),

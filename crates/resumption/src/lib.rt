@@ -7,11 +7,11 @@ ghost use Rattle.resumption.specs.Resumption.{limitsKept, sizeRank, noth
 ghost use Rattle.refusal.specs.Answer.{verdictOutcome};
 use catalogue::ACTIVE_CONNECTION_ID_LIMIT;
 use catalogue::INITIAL_MAX_DATA;
-use catalogue::INITIAL_MAX_STREAMS_BIDI;
-use catalogue::INITIAL_MAX_STREAMS_UNI;
 use catalogue::INITIAL_MAX_STREAM_DATA_BIDI_LOCAL;
 use catalogue::INITIAL_MAX_STREAM_DATA_BIDI_REMOTE;
 use catalogue::INITIAL_MAX_STREAM_DATA_UNI;
+use catalogue::INITIAL_MAX_STREAMS_BIDI;
+use catalogue::INITIAL_MAX_STREAMS_UNI;
 use catalogue::NUMBERS;
 use record::OptionalNumber;
 use record::TransportParameters;

@@ -99,14 +99,30 @@ fn put_12_to_14(
     requires { ⌜ Kept (now src) (now kept) (now lens) × (at ≤ length (now out)) ⌝ }
     ensures { λ r. ⌜ (r, now (out .exit), []) ≡ laid (from12 (now (src .entry)) marks (now (kept .entry)) (now (lens .entry))) 12 at (now (out .entry)) [] ⌝ }
 {
-    let a = at + put_at(STATELESS_RESET_TOKEN, TOKEN_ID, src, marks, kept, lens, &mut out[at..]);
-    let b = a + put_value(is_marked(marks, DISABLE_ACTIVE_MIGRATION), MIGRATION_ID, &[], &mut out[a..]);
-    b + put_number(
-        is_marked(marks, MAX_DATAGRAM_FRAME_SIZE),
-        DATAGRAM_ID,
-        kept[MAX_DATAGRAM_FRAME_SIZE],
-        &mut out[b..],
-    )
+    let a = at
+        + put_at(
+            STATELESS_RESET_TOKEN,
+            TOKEN_ID,
+            src,
+            marks,
+            kept,
+            lens,
+            &mut out[at..],
+        );
+    let b = a
+        + put_value(
+            is_marked(marks, DISABLE_ACTIVE_MIGRATION),
+            MIGRATION_ID,
+            &[],
+            &mut out[a..],
+        );
+    b
+        + put_number(
+            is_marked(marks, MAX_DATAGRAM_FRAME_SIZE),
+            DATAGRAM_ID,
+            kept[MAX_DATAGRAM_FRAME_SIZE],
+            &mut out[b..],
+        )
 }
 
 fn put_15_to_17(
@@ -120,9 +136,36 @@ fn put_15_to_17(
     requires { ⌜ Kept (now src) (now kept) (now lens) × (at ≤ length (now out)) ⌝ }
     ensures { λ r. ⌜ (r, now (out .exit), []) ≡ laid (from15 (now (src .entry)) marks (now (kept .entry)) (now (lens .entry))) 15 at (now (out .entry)) [] ⌝ }
 {
-    let a = at + put_at(PREFERRED_ADDRESS, ADDRESS_ID, src, marks, kept, lens, &mut out[at..]);
-    let b = a + put_at(ORIGINAL_DST_CID, ORIGINAL_ID, src, marks, kept, lens, &mut out[a..]);
-    b + put_at(INITIAL_SRC_CID, INITIAL_ID, src, marks, kept, lens, &mut out[b..])
+    let a = at
+        + put_at(
+            PREFERRED_ADDRESS,
+            ADDRESS_ID,
+            src,
+            marks,
+            kept,
+            lens,
+            &mut out[at..],
+        );
+    let b = a
+        + put_at(
+            ORIGINAL_DST_CID,
+            ORIGINAL_ID,
+            src,
+            marks,
+            kept,
+            lens,
+            &mut out[a..],
+        );
+    b
+        + put_at(
+            INITIAL_SRC_CID,
+            INITIAL_ID,
+            src,
+            marks,
+            kept,
+            lens,
+            &mut out[b..],
+        )
 }
 
 fn put_18_to_20(
@@ -136,14 +179,30 @@ fn put_18_to_20(
     requires { ⌜ Kept (now src) (now kept) (now lens) × (at ≤ length (now out)) ⌝ }
     ensures { λ r. ⌜ (r, now (out .exit), []) ≡ laid (from18 (now (src .entry)) marks (now (kept .entry)) (now (lens .entry))) 18 at (now (out .entry)) [] ⌝ }
 {
-    let a = at + put_at(RETRY_SRC_CID, RETRY_ID, src, marks, kept, lens, &mut out[at..]);
-    let b = a + put_value(is_marked(marks, GREASE_QUIC_BIT), GREASE_ID, &[], &mut out[a..]);
-    b + put_number(
-        is_marked(marks, MIN_ACK_DELAY),
-        ACK_DELAY_ID,
-        kept[MIN_ACK_DELAY],
-        &mut out[b..],
-    )
+    let a = at
+        + put_at(
+            RETRY_SRC_CID,
+            RETRY_ID,
+            src,
+            marks,
+            kept,
+            lens,
+            &mut out[at..],
+        );
+    let b = a
+        + put_value(
+            is_marked(marks, GREASE_QUIC_BIT),
+            GREASE_ID,
+            &[],
+            &mut out[a..],
+        );
+    b
+        + put_number(
+            is_marked(marks, MIN_ACK_DELAY),
+            ACK_DELAY_ID,
+            kept[MIN_ACK_DELAY],
+            &mut out[b..],
+        )
 }
 
 // All of it.

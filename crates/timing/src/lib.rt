@@ -1,20 +1,32 @@
 // The operations as another crate of Rattle calls them, exported for the benchmark (bench/): a record stays a record, where the C interface
-// makes its image.
+// makes its image. An answer is a count, or `REFUSED` and the number of the refusal.
 ghost use mathlib.Core.Path.{_≡_};
 ghost use lib.ListN.{getD};
+ghost use Rattle.refusal.specs.Answer.{countOutcome, valueOr};
+ghost use Rattle.record.specs.Record.{defaultRecord};
 ghost use Rattle.reader.specs.Reading.{read};
 ghost use Rattle.writer.specs.Writing.{write};
 ghost use Rattle.tidy.specs.Tidying.{tidy};
 ghost use Rattle.image.specs.Image.{recordFrom};
-ghost use Rattle.reader.specs.Answer.{recordIn};
-ghost use Rattle.timing.specs.Timing.{code, lastOf, counted, again, repeat, writtenFrom};
+ghost use Rattle.timing.specs.Timing.{code, codeOf, lastOf, counted, again, repeat, readsOf, writtenFrom};
+use catalogue::NUMBERS;
 use record::TransportParameters;
+use refusal::Answer;
+use refusal::Counted;
 use rules::Side;
-use tidy::Tidied;
-use writer::Written;
 
-// How many numbers a record has.
-const NUMBERS: usize = 11;
+// No count is as large.
+const REFUSED: usize = 1 << 32;
+
+// A count, or what refuses.
+fn code_of(answer: Counted) -> usize
+    ensures { λ r. ⌜ r ≡ codeOf (countOutcome answer) ⌝ }
+{
+    match answer {
+        Counted::Count(n) => n,
+        Counted::Refused(refusal) => REFUSED + (refusal.number() as usize),
+    }
+}
 
 // Reading, and writing, have more than one caller here, so that the compiler keeps each a function of its own. Inlined, reading would leave
 // out what its caller does not look at, and writing could test the record once for all calls of a loop.
@@ -26,8 +38,8 @@ fn read_once(src: &[u8]) -> u8
     let reading = reader::read(Side::Client, src);
     let answer = reading.answer;
     match answer {
-        reader::Answer::Accepted => 0,
-        reader::Answer::Refused(refusal) => refusal.number(),
+        Answer::Accepted => 0,
+        Answer::Refused(refusal) => refusal.number(),
     }
 }
 
@@ -45,10 +57,33 @@ pub extern "C" fn timing_read(src: &[u8], times: usize) -> u8
     last
 }
 
+// The same for extensions of one size that stand one after another, from the first again after the last.
+#[no_mangle]
+pub extern "C" fn timing_reads(src: &[u8], size: usize, times: usize) -> u8
+    ensures { λ r. ⌜ r ≡ readsOf times size (now (src .entry)) ⌝ }
+{
+    if src.len() < size {
+        return 0;
+    }
+    let mut last: u8 = 0;
+    let mut at: usize = 0;
+    let mut i: usize = 0;
+    while i < times {
+        if src.len() - at < size {
+            at = 0;
+        }
+        let end = at + size;
+        last = read_once(&src[at..end]);
+        at = end;
+        i += 1;
+    }
+    last
+}
+
 // The number at a place of the record read, 0 from place 11 on; of a refused extension, of the default record.
 #[no_mangle]
 pub extern "C" fn timing_number(src: &[u8], place: usize) -> u64
-    ensures { λ r. ⌜ r ≡ getD (recordIn (read Side.Client (now (src .entry))) .numbers) place 0 ⌝ }
+    ensures { λ r. ⌜ r ≡ getD (valueOr defaultRecord (read Side.Client (now (src .entry))) .numbers) place 0 ⌝ }
 {
     let reading = reader::read(Side::Client, src);
     if NUMBERS <= place {
@@ -62,25 +97,22 @@ pub extern "C" fn timing_number(src: &[u8], place: usize) -> u64
 fn write_once(r: TransportParameters, out: &mut [u8]) -> usize
     ensures { λ n. ⌜ (n, now (out .exit)) ≡ counted (write r (now (out .entry))) ⌝ }
 {
-    match writer::write(r, out) {
-        Counted::Count(n) => n,
-        Counted::Refused(_) => 0,
-    }
+    code_of(writer::write(r, out))
 }
 
 fn write_times(r: TransportParameters, times: usize, out: &mut [u8]) -> usize
     ensures { λ n. ⌜ (n, now (out .exit)) ≡ repeat times (again r) (0, now (out .entry)) ⌝ }
 {
-    let mut count: usize = 0;
+    let mut answer: usize = 0;
     let mut i: usize = 0;
     while i < times {
-        count = write_once(r, out);
+        answer = write_once(r, out);
         i += 1;
     }
-    count
+    answer
 }
 
-// Writes the record of an image so many times, and gives the count of the last.
+// Writes the record of an image so many times, and gives the answer of the last.
 #[no_mangle]
 pub extern "C" fn timing_write(record: &[u8], times: usize, out: &mut [u8]) -> usize
     ensures { λ r. ⌜ (r, now (out .exit)) ≡ writtenFrom (recordFrom (now («record» .entry))) times (now (out .entry)) ⌝ }
@@ -88,11 +120,11 @@ pub extern "C" fn timing_write(record: &[u8], times: usize, out: &mut [u8]) -> u
     let imaged = image::record_from(record);
     let answer = imaged.answer;
     match answer {
-        image::Answer::Accepted => {
+        Answer::Accepted => {
             let r = imaged.parameters;
             write_times(r, times, out)
         }
-        image::Answer::Refused(_) => 0,
+        Answer::Refused(refusal) => REFUSED + (refusal.number() as usize),
     }
 }
 
@@ -104,11 +136,11 @@ pub extern "C" fn timing_written(record: &[u8], out: &mut [u8]) -> usize
     let imaged = image::record_from(record);
     let answer = imaged.answer;
     match answer {
-        image::Answer::Accepted => {
+        Answer::Accepted => {
             let r = imaged.parameters;
             write_once(r, out)
         }
-        image::Answer::Refused(_) => 0,
+        Answer::Refused(refusal) => REFUSED + (refusal.number() as usize),
     }
 }
 
@@ -116,8 +148,5 @@ pub extern "C" fn timing_written(record: &[u8], out: &mut [u8]) -> usize
 pub extern "C" fn timing_tidy(src: &[u8], out: &mut [u8]) -> usize
     ensures { λ r. ⌜ (r, now (out .exit)) ≡ counted (tidy Side.Client (now (src .entry)) (now (out .entry))) ⌝ }
 {
-    match tidy::tidy(Side::Client, src, out) {
-        Counted::Count(n) => n,
-        Counted::Refused(_) => 0,
-    }
+    code_of(tidy::tidy(Side::Client, src, out))
 }

@@ -1,5 +1,4 @@
 // Runs the sample numbers of RFC 9000 appendix A.1, the boundaries of the number forms, and connection IDs, and says what came out.
-use connection_id::CidAnswer;
 use connection_id::ConnectionId;
 use connection_id::DecodedCid;
 use libc::STDOUT_FILENO;

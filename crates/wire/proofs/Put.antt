@@ -1,11 +1,13 @@
 -- Laws of `put`, and of the parameters that are due. Assumes nothing.
---     put-whole, put-none    with room, and without
---     put-wrote              with room for the most there can be, a writer leaves what is due
+--     put-whole, put-none, put-nil    with room, without, and of no bytes
+--     copied, put-copied        bytes copied one at a time
+--     put-wrote, stored         with room for the most there can be, a writer leaves what is due
 --     put-within, put-behind    never more than the buffer holds
---     encoded, declined      what writing a number gives
---     due-short, due-long, number-short    what is due, as the code makes it
---     is-due, not-due        a parameter that is due or not
-use Prim.Native.Nat.{ℕ, _+_, _-_, _^_, _≤_, _<_}
+--     encoded, declined         what writing a number gives
+--     not-due, is-due, number-not-due, number-is-due    a parameter that is due or not
+--     short-none, short-whole, number-none, number-declined, number-whole    identifiers and lengths of one byte
+--     head-first, head-second, head-whole, long-nothing, long-none, long-whole    and of any
+use Prim.Native.Nat.{ℕ, _+_, _≤_, _<_}
 use mathlib.Core.List.{List, [], _∷_, _++_, append-assoc}
 use mathlib.Core.Option.{none, some}
 use mathlib.Core.Path.{_≡_, refl, ap, ap₂, sym, _∙_}

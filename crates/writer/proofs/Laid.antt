@@ -3,7 +3,7 @@
 --     laid-then      some, then others
 --     laid-within    never beyond the buffer
 --     laid-room      with room for all: where they stand, and where each ends
-use Prim.Native.Nat.{ℕ, zero, suc, _+_, _-_, _^_, _≤_, _<_}
+use Prim.Native.Nat.{ℕ, suc, _+_, _-_, _*_, _^_, _≤_, _<_}
 use mir.Val.{Fits}
 use mir.Syntax.{w64}
 use mathlib.Core.List.{List, [], _∷_, _++_, append-assoc}
@@ -14,6 +14,7 @@ use native.Mathlib.Numerals.{add-one}
 use lib.ListN.{length, take, drop, set, length-append, length-take, length-drop, length-set, take-append-drop}
 use lib.Seq.{sets, take-at, drop-at, drop-drop, length-take-le}
 use Rattle.refusal.specs.Outcome.{front}
+use Rattle.catalogue.specs.Catalogue.{places}
 use Rattle.wire.specs.Wire.{put}
 use Rattle.wire.specs.Stored.{Wrote, joined, each}
 use Rattle.wire.proofs.Stored.{lent, back, rest, whole, length-front, length-each}
@@ -27,6 +28,27 @@ unfolding laid
 laid-next s ss k at n out ys st e =
     let p : put s (drop at out) ≡ (n, ys) = sym (e ∙ ap (put s) (rest at out)) in
     rw (p, whole at out ys)
+
+-- a place as an index of the starts
+pub record Index (p : ℕ) : Type 0 where
+  pub here : p < places + 1
+  pub next : p + 1 < places + 1
+  pub fits : Fits w64 (p * 8)
+  pub next-fits : Fits w64 (p + 1)
+  pub fits-next : Fits w64 ((p + 1) * 8)
+
+pub index : (p : ℕ) → p < places → Index p
+index p h = record { here = omega arith; next = omega arith; fits = omega arith; next-fits = omega arith; fits-next = omega arith }
+
+-- a turn of a loop
+pub turn-le : (i n : ℕ) → i < n → i + 1 ≤ n
+turn-le i n h = omega arith
+
+pub turn-less : (i n : ℕ) → i < n → n - (i + 1) < n - i
+turn-less i n h = omega arith
+
+pub place : (i : ℕ) → i < 11 → i < places
+place i h = omega arith
 
 -- how far a writer goes is a number of the machine
 pub fits-behind : {at n : ℕ} {o m : List ℕ} {l : ℕ} → Behind at n o m → length o ≡ l → l < 2 ^ 64 → Fits w64 (at + n)

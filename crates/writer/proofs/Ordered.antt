@@ -3,7 +3,7 @@
 --     ordered-more   one more place
 --     part-is        each part is what is due at its place
 --     ordered        so that together they are the extension in that order
---     in-order       for which a buffer has room
+--     in-order       each place has its part
 use Prim.Native.Nat.{ℕ, zero, suc, _+_, _-_, _≤_, _<_}
 use mathlib.Core.List.{List, [], _∷_, _++_, append-assoc, append-nil}
 use mathlib.Core.Path.{_≡_, refl, ap, ap₂, sym, _∙_}
@@ -11,8 +11,8 @@ use mathlib.Core.Bool.{Bool, true, false}
 use native.Mathlib.Omega.{arith}
 use native.Mathlib.Nat.{add-zero, zero-add}
 use native.Mathlib.Numerals.{add-one}
-use lib.ListN.{length, getD, take, drop, replicate, length-append, length-drop, take-append-drop, List·getD-append}
-use lib.Seq.{take-suc, split-at, take-append-seam, drop-append-add, length-take-le, getD-at, sets, sets-eq}
+use lib.ListN.{length, getD, take, drop, replicate, length-append, take-append-drop, List·getD-append}
+use lib.Seq.{take-suc, split-at, take-append-seam, drop-append-add, getD-at, sets, sets-eq}
 use borrow.Author.Tests.{eqb-true, eqb-false}
 use lib.Dec.{eqb}
 use Rattle.refusal.specs.Outcome.{front}
@@ -68,21 +68,19 @@ pub record Part (starts parts out : List ℕ) (p at : ℕ) : Type 0 where
   pub place : p < places
   pub forward : getD starts p 0 ≤ getD starts (p + 1) 0
   pub within : getD starts (p + 1) 0 ≤ length parts
-  pub long : getD starts (p + 1) 0 - getD starts p 0 ≡ length (partAt starts parts p)
   pub room : at + length (partAt starts parts p) ≤ length out
 
-pub part-room : (starts parts os out : List ℕ) (k p at : ℕ) → InOrder os starts parts out → k < places → at ≡ length (concatOf (partAt starts parts) (take k os))
+pub part-room : (starts parts os out : List ℕ) (k p at : ℕ) → InOrder os starts parts → length (concatOf (partAt starts parts) os) ≤ length out → k < places → at ≡ length (concatOf (partAt starts parts) (take k os))
     → p ≡ getD os k 0 → Part starts parts out p at
 unfolding partAt
-part-room starts parts os out k p at o h c e =
+part-room starts parts os out k p at o r h c e =
     let i : p < places = rw e (o .each-place k h) in
     let t = o .each-part p i in
     record {
       place = i;
       forward = t .0;
       within = t .1;
-      long = sym (length-take-le _ (drop (getD starts p 0) parts) (rw (length-drop (getD starts p 0) parts) (omega arith)));
-      room = rw e (omega (arith, o .room, concat-le (partAt starts parts) os k (omega (arith, o .long))));
+      room = rw e (omega (arith, concat-le (partAt starts parts) os k (omega (arith, o .long))));
     }
 
 -- WHERE THE PARTS ARE
@@ -178,13 +176,11 @@ unfolding extension
 ordered r os n out m st h l x =
     concat-same (partAt st m) (parameterAt r) os (λ k i. part-is (parameterAt r) n out m st l x (getD os k 0) (ordered-place os h k (rw (ordered-length os h) at i)) .same)
 
--- with room for the extension
-pub in-order : (r : TransportParameters) (os : List ℕ) (n : ℕ) (scratch m st out : List ℕ) → permutation os ≡ true → maxExtension ≤ length scratch
-    → Whole (each (parameterAt r) places) scratch (replicate (places + 1) 0) n m st → length (extension r os) ≤ length out → InOrder os st m out
-in-order r os n scratch m st out h l x k =
+pub in-order : (r : TransportParameters) (os : List ℕ) (n : ℕ) (out m st : List ℕ) → permutation os ≡ true → maxExtension ≤ length out
+    → Whole (each (parameterAt r) places) out (replicate (places + 1) 0) n m st → InOrder os st m
+in-order r os n out m st h l x =
     record {
       long = ordered-length os h;
       each-place = ordered-place os h;
-      each-part = λ p i. let d = part-is (parameterAt r) n scratch m st l x p i in (d .forward, d .within);
-      room = rw (ordered r os n scratch m st h l x) k;
+      each-part = λ p i. let d = part-is (parameterAt r) n out m st l x p i in (d .forward, d .within);
     }

@@ -1,5 +1,5 @@
 -- The parts of a record that are handed to the writers, and the value of a preferred address. Assumes nothing.
-use Prim.Native.Nat.{ℕ, suc, _+_, _-_, _/_, _%_, _≤_, _<_}
+use Prim.Native.Nat.{ℕ, _+_, _/_, _%_, _≤_, _<_}
 use mathlib.Core.List.{List, [], _∷_, _++_}
 use mathlib.Core.Path.{_≡_, refl, ap, sym, _∙_}
 use mathlib.Core.Bool.{true}
@@ -13,7 +13,7 @@ use Rattle.refusal.specs.Outcome.{Outcome, accepted, refused, front}
 use Rattle.refusal.proofs.Laws.{all-at}
 use Rattle.varint.specs.Number.{bytesOf}
 use Rattle.connection_id.specs.declared.ConnectionId.{ConnectionId}
-use Rattle.connection_id.specs.ConnectionId.{cidBytes, cidWire, formedCid, writeCid}
+use Rattle.connection_id.specs.ConnectionId.{cidWire, formedCid, writeCid}
 use Rattle.connection_id.proofs.Laws.{cid-facts, cid-length}
 use Rattle.record.specs.declared.OptionalConnectionId.{OptionalConnectionId}
 use Rattle.record.specs.declared.PreferredAddress.{PreferredAddress}

@@ -4,8 +4,8 @@
 --     in-catalogue-order    one after another, they are the extension in catalogue order
 use Prim.Native.Nat.{ℕ, zero, suc, _≤_, _<_}
 use mathlib.Core.List.{List, [], _∷_, _++_}
-use mathlib.Core.Option.{Option, none, some}
-use mathlib.Core.Path.{_≡_, refl, ap, ap₂, sym, _∙_}
+use mathlib.Core.Option.{none, some}
+use mathlib.Core.Path.{_≡_, refl, ap₂, _∙_}
 use mathlib.Core.Bool.{Bool, true, false, not}
 use native.Mathlib.Omega.{arith}
 use lib.ListN.{length, getD, take, length-take}
@@ -19,7 +19,7 @@ use Rattle.record.specs.declared.TransportParameters.{TransportParameters}
 use Rattle.record.specs.declared.OptionalNumber.{OptionalNumber}
 use Rattle.record.specs.declared.OptionalNumber.the-variants.{Absent, Present}
 use Rattle.record.specs.declared.ReservedTransportParameter.{ReservedTransportParameter}
-use Rattle.catalogue.specs.Catalogue.{Kind, number, flag, cid, token, address, reserved, places, ids, idAt, kinds, kindAt, defaults, widest, parameter, parameterIf}
+use Rattle.catalogue.specs.Catalogue.{Kind, number, flag, cid, token, address, reserved, places, idAt, kindAt, defaults, widest, parameter, parameterIf}
 use Rattle.catalogue.proofs.Places.{id-lt}
 use Rattle.record.specs.Values.{numberOut, optionalOut, flagOut, cidOut, tokenOut, addressOut, otherValues, valuesOf}
 use Rattle.record.specs.Record.{isPresent, least, formedOptional, formedOptionalCid, formedAddress, formedReserved, formedOrder, wellFormed}

@@ -2,7 +2,9 @@
 use Prim.Native.Nat.{ℕ, suc, _+_, _-_, _≤_, _<_}
 use mathlib.Core.List.{List, [], _∷_, _++_}
 use mathlib.Core.Path.{_≡_}
+use mathlib.Core.Bool.{Bool, true}
 use lib.ListN.{length, getD, take, drop, set}
+use Rattle.refusal.specs.Outcome.{pick}
 use Rattle.connection_id.specs.ConnectionId.{cidBytes}
 use Rattle.record.specs.declared.PreferredAddress.{PreferredAddress}
 use Rattle.catalogue.specs.Catalogue.{places}
@@ -31,9 +33,18 @@ addressBytes a =
 unfoldable pub partAt : List ℕ → List ℕ → ℕ → List ℕ
 partAt starts parts p = take (getD starts (p + 1) 0 - getD starts p 0) (drop (getD starts p 0) parts)
 
--- each place of an order has its part, and there is room for all of them
-pub record InOrder (order starts parts out : List ℕ) : Type 0 where
+-- each place of an order has its part
+pub record InOrder (order starts parts : List ℕ) : Type 0 where
   pub long : length order ≡ places
   pub each-place : (k : ℕ) → k < places → getD order k 0 < places
   pub each-part : (p : ℕ) → p < places → (getD starts p 0 ≤ getD starts (p + 1) 0) × (getD starts (p + 1) 0 ≤ length parts)
-  pub room : length (concatOf (partAt starts parts) order) ≤ length out
+
+-- the parts in the order, if one is present, or the first n bytes of them
+unfoldable pub bytesIn : ℕ → Bool → List ℕ → List ℕ → List ℕ → List ℕ
+bytesIn n present order starts parts = pick present (concatOf (partAt starts parts) order) (take n parts)
+
+-- there are n bytes either way
+pub record Ready (n : ℕ) (present : Bool) (order starts parts : List ℕ) : Type 0 where
+  pub count : n ≡ length (bytesIn n present order starts parts)
+  pub within : n ≤ length parts
+  pub in-order : present ≡ true → InOrder order starts parts

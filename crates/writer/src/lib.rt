@@ -2,9 +2,9 @@
 ghost use mathlib.Core.Path.{_≡_};
 ghost use mathlib.Core.List.{[], _∷_, _++_};
 ghost use mathlib.Core.Bool.{true};
-ghost use Prim.Native.Nat.{ℕ, _+_, _<_, _≤_};
+ghost use Prim.Native.Nat.{_+_, _<_, _≤_};
 ghost use lib.ListN.{length, take};
-ghost use Rattle.refusal.specs.Outcome.{front, store};
+ghost use Rattle.refusal.specs.Outcome.{pick, front, store};
 ghost use Rattle.refusal.specs.Answer.{countOutcome};
 ghost use Rattle.varint.specs.Number.{bytesOf};
 ghost use Rattle.connection_id.specs.ConnectionId.{cidBytes, formedCid};
@@ -14,13 +14,22 @@ ghost use Rattle.record.specs.Record.{isPresent, least, formedOptionalCid, form
 ghost use Rattle.order.specs.Order.{permutation, catalogueOrder};
 ghost use Rattle.wire.specs.Wire.{put, dueValue, dueNumber, numberAt};
 ghost use Rattle.wire.specs.Stored.{Wrote, each};
-ghost use Rattle.writer.specs.Writing.{parameterAt, concatOf, extension, write};
-ghost use Rattle.writer.specs.Laid.{laid, addressBytes, partAt, InOrder};
+ghost use Rattle.writer.specs.Writing.{parameterAt, concatOf, write};
+ghost use Rattle.writer.specs.Laid.{laid, addressBytes, partAt, InOrder, bytesIn, Ready};
 use catalogue::DEFAULTS;
+use catalogue::DISABLE_ACTIVE_MIGRATION;
+use catalogue::GREASE_QUIC_BIT;
 use catalogue::IDS;
+use catalogue::INITIAL_SRC_CID;
+use catalogue::MAX_DATAGRAM_FRAME_SIZE;
 use catalogue::MAX_EXTENSION;
+use catalogue::MIN_ACK_DELAY;
 use catalogue::NUMBERS;
+use catalogue::ORIGINAL_DST_CID;
 use catalogue::PLACES;
+use catalogue::PREFERRED_ADDRESS;
+use catalogue::RETRY_SRC_CID;
+use catalogue::STATELESS_RESET_TOKEN;
 use connection_id::ConnectionId;
 use order::is_permutation;
 use record::OptionalConnectionId;
@@ -41,23 +50,24 @@ use wire::put_value;
 // The longest value of a preferred address, in bytes.
 const MAX_ADDRESS: usize = 61;
 
-const TOKEN_ID: u64 = IDS[catalogue::STATELESS_RESET_TOKEN];
+// The identifiers of the places that hold no plain number.
+const TOKEN_ID: u64 = IDS[STATELESS_RESET_TOKEN];
 
-const MIGRATION_ID: u64 = IDS[catalogue::DISABLE_ACTIVE_MIGRATION];
+const MIGRATION_ID: u64 = IDS[DISABLE_ACTIVE_MIGRATION];
 
-const DATAGRAM_ID: u64 = IDS[catalogue::MAX_DATAGRAM_FRAME_SIZE];
+const DATAGRAM_ID: u64 = IDS[MAX_DATAGRAM_FRAME_SIZE];
 
-const ADDRESS_ID: u64 = IDS[catalogue::PREFERRED_ADDRESS];
+const ADDRESS_ID: u64 = IDS[PREFERRED_ADDRESS];
 
-const ORIGINAL_ID: u64 = IDS[catalogue::ORIGINAL_DST_CID];
+const ORIGINAL_ID: u64 = IDS[ORIGINAL_DST_CID];
 
-const INITIAL_ID: u64 = IDS[catalogue::INITIAL_SRC_CID];
+const INITIAL_ID: u64 = IDS[INITIAL_SRC_CID];
 
-const RETRY_ID: u64 = IDS[catalogue::RETRY_SRC_CID];
+const RETRY_ID: u64 = IDS[RETRY_SRC_CID];
 
-const GREASE_ID: u64 = IDS[catalogue::GREASE_QUIC_BIT];
+const GREASE_ID: u64 = IDS[GREASE_QUIC_BIT];
 
-const ACK_DELAY_ID: u64 = IDS[catalogue::MIN_ACK_DELAY];
+const ACK_DELAY_ID: u64 = IDS[MIN_ACK_DELAY];
 
 fn wide(x: u8) -> usize
     ensures { λ r. ⌜ r ≡ x ⌝ }
@@ -70,9 +80,8 @@ fn put_cid(id: u64, o: OptionalConnectionId, out: &mut [u8]) -> usize
     requires { ⌜ formedOptionalCid o ≡ true ⌝ }
     ensures { λ r. ⌜ (r, now (out .exit)) ≡ put (dueValue (o .present) id (cidBytes (o .cid))) (now (out .entry)) ⌝ }
 {
-    let cid = o.cid;
-    let n = wide(cid.len);
-    let bytes = cid.bytes;
+    let n = wide(o.cid.len);
+    let bytes = o.cid.bytes;
     put_value(o.present, id, &bytes[..n], out)
 }
 
@@ -92,12 +101,14 @@ fn put_address(a: PreferredAddress, out: &mut [u8]) -> usize
     if !a.present {
         return 0;
     }
-    let v4 = a.address_v4;
-    let v6 = a.address_v6;
-    let cid = a.connection_id;
-    let token = a.stateless_reset_token;
     let mut value = [0u8; MAX_ADDRESS];
-    let n = put_address_value(v4, v6, cid, token, &mut value);
+    let n = put_address_value(
+        a.address_v4,
+        a.address_v6,
+        a.connection_id,
+        a.stateless_reset_token,
+        &mut value,
+    );
     put_value(true, ADDRESS_ID, &value[..n], out)
 }
 
@@ -113,18 +124,11 @@ fn put_address_value(
     ensures { λ r. ⌜ Wrote 61 (familyOut (ofV4 v4) ++ (familyOut (ofV6 v6) ++ (cid .len ∷ (cidBytes cid ++ token .bytes))))
         (now (out .entry)) r (now (out .exit)) ⌝ }
 {
-    put_families(v4, v6, out);
-    24 + put_cid_and_token(cid, token, &mut out[24..])
-}
-
-fn put_families(v4: SocketAddrV4, v6: SocketAddrV6, out: &mut [u8])
-    requires { ⌜ 24 ≤ length (now out) ⌝ }
-    ensures { λ r. ⌜ Wrote 24 (familyOut (ofV4 v4) ++ familyOut (ofV6 v6)) (now (out .entry)) 24 (now (out .exit)) ⌝ }
-{
     let ip4 = v4.ip;
     let ip6 = v6.ip;
     put_family(&ip4, v4.port, out);
     put_family(&ip6, v6.port, &mut out[6..]);
+    24 + put_cid_and_token(cid, token, &mut out[24..])
 }
 
 fn put_family(ip: &[u8], port: u16, out: &mut [u8])
@@ -158,7 +162,12 @@ fn put_numbers(numbers: &[u64; NUMBERS], starts: &mut [usize; PLACES + 1], out: 
     let mut at: usize = 0;
     let mut i: usize = 0;
     while i < NUMBERS {
-        at += put_number(numbers[i] != defaults[i], ids[i], numbers[i], &mut out[at..]);
+        at += put_number(
+            numbers[i] != defaults[i],
+            ids[i],
+            numbers[i],
+            &mut out[at..],
+        );
         i += 1;
         starts[i] = at;
     }
@@ -176,16 +185,15 @@ fn put_11_to_13(
     requires { ⌜ (formedReserved x ≡ true) × (at ≤ length (now out)) × (length (now starts) ≡ places + 1) ⌝ }
     ensures { λ r. ⌜ (r, now (out .exit), now (starts .exit))
         ≡ laid (dueValue (x .present) (x .id) (take (x .«payload_len») (x .payload)) ∷ dueValue (t .present) (idAt 12) (t .token .bytes)
-            ∷ dueValue migration (idAt 13) [] ∷ []) 12 at (now (out .entry)) (now (starts .entry)) ⌝ }
+        ∷ dueValue migration (idAt 13) [] ∷ []) 12 at (now (out .entry)) (now (starts .entry)) ⌝ }
 {
-    let token = t.token;
-    let bytes = token.bytes;
+    let bytes = t.token.bytes;
     let a = at + put_reserved(x, &mut out[at..]);
     let b = a + put_value(t.present, TOKEN_ID, &bytes, &mut out[a..]);
     let end = b + put_value(migration, MIGRATION_ID, &[], &mut out[b..]);
-    starts[12] = a;
-    starts[13] = b;
-    starts[14] = end;
+    starts[STATELESS_RESET_TOKEN] = a;
+    starts[DISABLE_ACTIVE_MIGRATION] = b;
+    starts[MAX_DATAGRAM_FRAME_SIZE] = end;
     end
 }
 
@@ -200,14 +208,14 @@ fn put_14_to_16(
     requires { ⌜ (formedAddress p ≡ true) × (formedOptionalCid original ≡ true) × (at ≤ length (now out)) × (length (now starts) ≡ places + 1) ⌝ }
     ensures { λ r. ⌜ (r, now (out .exit), now (starts .exit))
         ≡ laid (dueNumber (isPresent d) (idAt 14) (least d) ∷ dueValue (p .present) (idAt 15) (addressBytes p)
-            ∷ dueValue (original .present) (idAt 16) (cidBytes (original .cid)) ∷ []) 15 at (now (out .entry)) (now (starts .entry)) ⌝ }
+        ∷ dueValue (original .present) (idAt 16) (cidBytes (original .cid)) ∷ []) 15 at (now (out .entry)) (now (starts .entry)) ⌝ }
 {
     let a = at + put_number(d.is_present(), DATAGRAM_ID, d.or_zero(), &mut out[at..]);
     let b = a + put_address(p, &mut out[a..]);
     let end = b + put_cid(ORIGINAL_ID, original, &mut out[b..]);
-    starts[15] = a;
-    starts[16] = b;
-    starts[17] = end;
+    starts[PREFERRED_ADDRESS] = a;
+    starts[ORIGINAL_DST_CID] = b;
+    starts[INITIAL_SRC_CID] = end;
     end
 }
 
@@ -223,16 +231,22 @@ fn put_17_to_20(
     requires { ⌜ (formedOptionalCid initial ≡ true) × (formedOptionalCid retry ≡ true) × (at ≤ length (now out)) × (length (now starts) ≡ places + 1) ⌝ }
     ensures { λ r. ⌜ (r, now (out .exit), now (starts .exit))
         ≡ laid (dueValue (initial .present) (idAt 17) (cidBytes (initial .cid)) ∷ dueValue (retry .present) (idAt 18) (cidBytes (retry .cid))
-            ∷ dueValue grease (idAt 19) [] ∷ dueNumber (isPresent delay) (idAt 20) (least delay) ∷ []) 18 at (now (out .entry)) (now (starts .entry)) ⌝ }
+        ∷ dueValue grease (idAt 19) [] ∷ dueNumber (isPresent delay) (idAt 20) (least delay) ∷ []) 18 at (now (out .entry)) (now (starts .entry)) ⌝ }
 {
     let a = at + put_cid(INITIAL_ID, initial, &mut out[at..]);
     let b = a + put_cid(RETRY_ID, retry, &mut out[a..]);
     let e = b + put_value(grease, GREASE_ID, &[], &mut out[b..]);
-    let end = e + put_number(delay.is_present(), ACK_DELAY_ID, delay.or_zero(), &mut out[e..]);
-    starts[18] = a;
-    starts[19] = b;
-    starts[20] = e;
-    starts[21] = end;
+    let end = e
+        + put_number(
+            delay.is_present(),
+            ACK_DELAY_ID,
+            delay.or_zero(),
+            &mut out[e..],
+        );
+    starts[RETRY_SRC_CID] = a;
+    starts[GREASE_QUIC_BIT] = b;
+    starts[MIN_ACK_DELAY] = e;
+    starts[PLACES] = end;
     end
 }
 
@@ -243,23 +257,37 @@ fn put_catalogue(r: TransportParameters, starts: &mut [usize; PLACES + 1], out: 
         ≡ laid (each (parameterAt r) places) 1 0 (now (out .entry)) (now (starts .entry)) ⌝ }
 {
     let numbers = r.numbers;
-    let x = r.grease_transport_parameter;
-    let t = r.stateless_reset_token;
     let d = r.max_datagram_frame_size;
-    let p = r.preferred_address;
-    let original = r.original_dst_cid;
-    let initial = r.initial_src_cid;
-    let retry = r.retry_src_cid;
     let delay = r.min_ack_delay;
     let a = put_numbers(&numbers, starts, out);
-    let b = put_11_to_13(x, t, r.disable_active_migration, a, starts, out);
-    let e = put_14_to_16(d, p, original, b, starts, out);
-    put_17_to_20(initial, retry, r.grease_quic_bit, delay, e, starts, out)
+    let b = put_11_to_13(
+        r.grease_transport_parameter,
+        r.stateless_reset_token,
+        r.disable_active_migration,
+        a,
+        starts,
+        out,
+    );
+    let e = put_14_to_16(d, r.preferred_address, r.original_dst_cid, b, starts, out);
+    put_17_to_20(
+        r.initial_src_cid,
+        r.retry_src_cid,
+        r.grease_quic_bit,
+        delay,
+        e,
+        starts,
+        out,
+    )
 }
 
 // Copies the parameters of `parts` to `out` in an order; that of place p stands from `starts[p]` to `starts[p + 1]`.
-fn put_ordered(order: &[u8; PLACES], starts: &[usize; PLACES + 1], parts: &[u8], out: &mut [u8]) -> usize
-    requires { ⌜ InOrder (now order) (now starts) (now parts) (now out) ⌝ }
+fn put_ordered(
+    order: &[u8; PLACES],
+    starts: &[usize; PLACES + 1],
+    parts: &[u8],
+    out: &mut [u8],
+) -> usize
+    requires { ⌜ InOrder (now order) (now starts) (now parts) × (length (concatOf (partAt (now starts) (now parts)) (now order)) ≤ length (now out)) ⌝ }
     ensures { λ r. ⌜ Wrote (length (now (out .entry))) (concatOf (partAt (now (starts .entry)) (now (parts .entry))) (now (order .entry)))
         (now (out .entry)) r (now (out .exit)) ⌝ }
 {
@@ -275,62 +303,53 @@ fn put_ordered(order: &[u8; PLACES], starts: &[usize; PLACES + 1], parts: &[u8],
     at
 }
 
-// With an order, the parameters are written in catalogue order first.
-fn write_ordered(r: TransportParameters, order: &[u8; PLACES], out: &mut [u8]) -> Counted
-    requires { ⌜ (wellFormed r ≡ true) × (permutation (now order) ≡ true) ⌝ }
-    ensures { λ w. ⌜ (countOutcome w, now (out .exit)) ≡ store (extension r (now (order .entry))) (now (out .entry)) ⌝ }
+// Stores the `n` bytes of `parts`, in the order if one is present.
+fn put_laid(
+    n: usize,
+    present: bool,
+    order: &[u8; PLACES],
+    starts: &[usize; PLACES + 1],
+    parts: &[u8],
+    out: &mut [u8],
+) -> Counted
+    requires { ⌜ Ready n present (now order) (now starts) (now parts) ⌝ }
+    ensures { λ w. ⌜ (countOutcome w, now (out .exit))
+        ≡ store (bytesIn n present (now (order .entry)) (now (starts .entry)) (now (parts .entry))) (now (out .entry)) ⌝ }
 {
-    let mut starts = [0usize; PLACES + 1];
-    let mut parts = [0u8; MAX_EXTENSION];
-    let due = put_catalogue(r, &mut starts, &mut parts);
-    if out.len() < due {
-        return Counted::Refused(Refusal::BufferTooShort);
-    }
-    Counted::Count(put_ordered(order, &starts, &parts, out))
-}
-
-// In catalogue order they go straight to a buffer that has room for any.
-fn write_unordered(r: TransportParameters, out: &mut [u8]) -> Counted
-    requires { ⌜ wellFormed r ≡ true ⌝ }
-    ensures { λ w. ⌜ (countOutcome w, now (out .exit)) ≡ store (extension r catalogueOrder) (now (out .entry)) ⌝ }
-{
-    let mut starts = [0usize; PLACES + 1];
-    if MAX_EXTENSION <= out.len() {
-        return Counted::Count(put_catalogue(r, &mut starts, out));
-    }
-    let mut parts = [0u8; MAX_EXTENSION];
-    let n = put_catalogue(r, &mut starts, &mut parts);
     if out.len() < n {
         return Counted::Refused(Refusal::BufferTooShort);
     }
-    put_bytes(&parts[..n], out);
-    Counted::Count(n)
+    if present {
+        return Counted::Count(put_ordered(order, starts, parts, out));
+    }
+    Counted::Count(put_bytes(&parts[..n], out))
 }
 
-fn write_in_order(r: TransportParameters, out: &mut [u8]) -> Counted
-    requires { ⌜ r .«write_order» .present ≡ true ⌝ }
+// Whether the places can be written so: where no order is present, they are in catalogue order.
+fn is_order(present: bool, order: &[u8; PLACES]) -> bool
+    requires { ⌜ length (now order) ≡ places ⌝ }
+    ensures { λ r. ⌜ r ≡ permutation (pick present (now (order .entry)) catalogueOrder) ⌝ }
+{
+    if !present {
+        return true;
+    }
+    is_permutation(order)
+}
+
+// Writes the record to the front of `out`, in its order. The parameters are laid in an array first, so that the count is known before a byte of
+// `out` is touched.
+pub fn write(r: TransportParameters, out: &mut [u8]) -> Counted
     ensures { λ w. ⌜ (countOutcome w, now (out .exit)) ≡ write r (now (out .entry)) ⌝ }
 {
     if !r.is_well_formed() {
         return Counted::Refused(Refusal::IllFormed);
     }
     let places = r.write_order.places;
-    if !is_permutation(&places) {
+    if !is_order(r.write_order.present, &places) {
         return Counted::Refused(Refusal::InvalidOrder);
     }
-    write_ordered(r, &places, out)
-}
-
-// Writes the record to the front of `out`, in its order. Both ways test the record, so that the test stays a function of its own: inlined, it
-// has the whole record copied byte by byte.
-pub fn write(r: TransportParameters, out: &mut [u8]) -> Counted
-    ensures { λ w. ⌜ (countOutcome w, now (out .exit)) ≡ write r (now (out .entry)) ⌝ }
-{
-    if r.write_order.present {
-        return write_in_order(r, out);
-    }
-    if !r.is_well_formed() {
-        return Counted::Refused(Refusal::IllFormed);
-    }
-    write_unordered(r, out)
+    let mut starts = [0usize; PLACES + 1];
+    let mut parts = [0u8; MAX_EXTENSION];
+    let n = put_catalogue(r, &mut starts, &mut parts);
+    put_laid(n, r.write_order.present, &places, &starts, &parts, out)
 }

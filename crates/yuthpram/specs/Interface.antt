@@ -6,7 +6,7 @@ use mathlib.Core.Bool.{not}
 use lib.ListN.{length, getD, replicate}
 use lib.Dec.{eqb}
 use Rattle.refusal.specs.Outcome.{Outcome, accepted, refused, pick, andThen, store}
-use Rattle.varint.specs.Number.{readNumber, writeNumber}
+use Rattle.varint.specs.Number.{sizeNumber, readNumber, writeNumber}
 use Rattle.connection_id.specs.declared.ConnectionId.{ConnectionId}
 use Rattle.connection_id.specs.ConnectionId.{readCid, writeCid}
 use Rattle.record.specs.declared.TransportParameters.{TransportParameters}
@@ -41,6 +41,10 @@ abbrev pub countIn : Outcome ℕ → ℕ → ℕ
 countIn (accepted k) n = k
 countIn (refused e) n = n
 
+-- the code and the count
+abbrev pub countCode : Outcome ℕ → ℕ → ℕ × ℕ
+countCode o n = (code o, countIn o n)
+
 -- the code, the buffer and the count
 abbrev pub counted : Outcome ℕ × List ℕ → ℕ → ℕ × List ℕ × ℕ
 counted w n = (code (w .0), w .1, countIn (w .0) n)
@@ -56,6 +60,9 @@ counting k (accepted n) = accepted k
 counting k (refused e) = refused e
 
 -- NUMBERS
+unfoldable pub numberSize : ℕ → ℕ → ℕ × ℕ
+numberSize v n = countCode (sizeNumber v) n
+
 abbrev pub numberInto : Outcome (ℕ × ℕ) → ℕ → ℕ → ℕ × ℕ × ℕ
 numberInto (accepted a) v n = (0, a .0, a .1)
 numberInto (refused e) v n = (e, v, n)

@@ -5,19 +5,13 @@ use borrow.Author.Needs.{needs}
 use Rattle.image.proofs.cid_from.Statement.{statement}
 use Rattle.image.proofs.cid_from.Tie as tie
 
-empty-requires : tie.Need-empty-requires
-empty-requires c κs = search needs
-
 returns : tie.Need-returns
 unfolding cidFrom
 returns c = rw (c .empty .ensures, ne-eqb _ 21 (c .before .if1 .taken))
-
-cid-at-requires : tie.Need-cid-at-requires
-cid-at-requires c κs = search needs
 
 returns-2 : tie.Need-returns-2
 unfolding cidFrom
 returns-2 c = rw (c .cid-at .ensures, eq-eqb _ 21 (c .before .if1 .left))
 
 pub cid-from-spec : {M : Type 1} → statement M
-cid-from-spec = tie.close (tie.spec empty-requires returns cid-at-requires returns-2)
+cid-from-spec = tie.close (tie.spec (λ c κs. search needs) returns (λ c κs. search needs) returns-2)

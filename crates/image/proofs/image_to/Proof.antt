@@ -1,6 +1,5 @@
 -- `image::image_to` meets its contract. Assumes nothing.
-use Rattle.image.proofs.Stores.{Sized, image-size, record-stored}
-use Rattle.image.proofs.Answers.{no-room, room}
+use Rattle.image.proofs.Stores.{Sized, image-size, record-stored, no-room, room}
 use borrow.Author.Needs.{needs}
 use Rattle.image.proofs.image_to.Statement.{statement}
 use Rattle.image.proofs.image_to.Tie as tie
@@ -25,26 +24,20 @@ sized c =
 returns : tie.Need-returns
 returns c = no-room _ _ 303 (image-size (c .before .before .args .r) (sized (c .before .before))) (c .if1 .taken)
 
-put-front-requires : tie.Need-put-front-requires
-put-front-requires c κs = search needs
-
-put-ids-requires : tie.Need-put-ids-requires
-put-ids-requires c κs = search needs
-
-put-rest-requires : tie.Need-put-rest-requires
-put-rest-requires c κs = search needs
-
-same-length : tie.Need-same-length
-same-length c = search needs
-
 returns-2 : tie.Need-returns-2
 returns-2 c =
-    let s = c .before .before .before .before .before .before .before .before .before .before .before .before .before .before .before .before .before .before .before .before .before .before .before in
-    let r = s .args .r in
-    room _ _ _ 303 (image-size r (sized s)) (c .before .before .before .before .before .before .before .before .before .before .before .before .before .before .before .before .before .before .before .before .before .if1 .left)
-    (record-stored r (sized s) _ _ _ _ (c .before .before .before .before .before .before .before .before .before .before .put-front .ensures) (c .before .before .before .before .before .before .put-ids .ensures) (c .before .before .put-rest .ensures))
+    let s = c .before .before .before .before .before .before .before .before .before .before .before .before .before .before .before .before .before .before .before .before in
+    room _ _ _ 303 (image-size (s .args .r) (sized s)) (c .before .before .before .before .before .before .before .before .before .before .before .before .before .before .before .before .before .before .if1 .left)
+    (record-stored (s .args .r) (sized s) _ _ _ _ _ (c .before .before .before .before .before .before .before .before .before .before .before .before .before .before .put-front .ensures) (c .before .before .before .before .before .before .before .before .before .before .put-ids .ensures) (c .before .before .before .before .before .before .put-address .ensures) (c .before .before .put-rest .ensures))
 
 pub image-to-spec : {M : Type 1} → statement M
 image-to-spec =
     tie.close
-    (tie.spec returns put-front-requires put-ids-requires put-rest-requires same-length returns-2)
+    (tie.spec
+    returns
+    (λ c κs. search needs)
+    (λ c κs. search needs)
+    (λ c κs. search needs)
+    (λ c κs. search needs)
+    (λ c. search needs)
+    returns-2)

@@ -1,7 +1,11 @@
 -- `image::put_address` meets its contract. Assumes nothing.
-use mathlib.Core.Path.{_≡_}
-use lib.ListN.{length}
-use Rattle.image.proofs.Stores.{address-stored}
+use native.Mathlib.Omega.{arith}
+use mathlib.Core.Path.{_≡_, refl, sym, _∙_}
+use lib.ListN.{length, length-set}
+use Rattle.image.proofs.Places.{within}
+use Rattle.image.proofs.Stores.{byte, put, behind, group, done, laid, joined-size}
+use Rattle.record.specs.Values.{ofV4, ofV6}
+use Rattle.image.specs.Image.{familyParts, addressParts}
 use borrow.Author.Needs.{needs}
 use Rattle.image.proofs.put_address.Statement.{statement}
 use Rattle.image.proofs.put_address.Tie as tie
@@ -15,54 +19,57 @@ v6-long c = search needs
 id-long : (c : tie.Start) → length (c .args .a .«connection_id» .bytes) ≡ 20
 id-long c = search needs
 
-put-flag-requires : tie.Need-put-flag-requires
-put-flag-requires c κs = search needs
+token-long : (c : tie.Start) → length (c .args .a .«stateless_reset_token» .bytes) ≡ 16
+token-long c = search needs
 
-add-put-v4 : tie.Need-add-put-v4
-add-put-v4 c = search needs
+put-family-requires : tie.Need-put-family-requires
+put-family-requires c κs = within 195 (v4-long (c .before .before .before .before .before .before .before .before)) (length-set (c .before .before .before .before .before .before .before .before .args .out .now) 191 _) (c .before .before .before .before .before .before .before .before .pre) tt
 
-put-v4-requires : tie.Need-put-v4-requires
-put-v4-requires c κs = search needs
+put-family-requires-2 : tie.Need-put-family-requires-2
+put-family-requires-2 c κs = within 202 (v6-long (c .before .before .before .before .before .before .before .before .before .before .before .before .before)) (c .before .before .before .before .put-family .kept .1 .1 .1 .1 .0 ∙ length-set (c .before .before .before .before .before .before .before .before .before .before .before .before .before .args .out .now) 191 _) (c .before .before .before .before .before .before .before .before .before .before .before .before .before .pre) tt
 
-add-put-v6 : tie.Need-add-put-v6
-add-put-v6 c = search needs
+put-behind-requires : tie.Need-put-behind-requires
+put-behind-requires c κs =
+    within 219 (id-long (c .before .before .before .before .before .before .before .before .before .before .before .before .before .before .before .before .before .before)) (c .before .before .before .before .put-family2 .kept .1 .1 .1 .1 .0 ∙ c .before .before .before .before .before .before .before .before .before .put-family .kept .1 .1 .1 .1 .0 ∙ length-set (c .before .before .before .before .before .before .before .before .before .before .before .before .before .before .before .before .before .before .args .out .now) 191 _) (c .before .before .before .before .before .before .before .before .before .before .before .before .before .before .before .before .before .before .pre) tt
 
-put-v6-requires : tie.Need-put-v6-requires
-put-v6-requires c κs = search needs
+slice-aggregate-put-bytes : tie.Need-slice-aggregate-put-bytes
+slice-aggregate-put-bytes c = sym (token-long (c .before .before .before .before .before .before .before .before .before .before .before .before .before .before .before .before .before .before .before .before .before .before))
 
-add-put-cid : tie.Need-add-put-cid
-add-put-cid c = search needs
-
-put-cid-requires : tie.Need-put-cid-requires
-put-cid-requires c κs = search needs
-
-add-put-token-bytes : tie.Need-add-put-token-bytes
-add-put-token-bytes c = search needs
-
-put-token-bytes-requires : tie.Need-put-token-bytes-requires
-put-token-bytes-requires c κs = search needs
+put-bytes-requires : tie.Need-put-bytes-requires
+put-bytes-requires c κs =
+    within 239 (token-long (c .before .before .before .before .before .before .before .before .before .before .before .before .before .before .before .before .before .before .before .before .before .before .before)) (c .before .before .before .before .put-behind .kept .1 .1 .1 .0 ∙ c .before .before .before .before .before .before .before .before .before .put-family2 .kept .1 .1 .1 .1 .0 ∙ c .before .before .before .before .before .before .before .before .before .before .before .before .before .before .put-family .kept .1 .1 .1 .1 .0 ∙ length-set (c .before .before .before .before .before .before .before .before .before .before .before .before .before .before .before .before .before .before .before .before .before .before .before .args .out .now) 191 _) (c .before .before .before .before .before .before .before .before .before .before .before .before .before .before .before .before .before .before .before .before .before .before .before .pre) tt
 
 same-length : tie.Need-same-length
-same-length c = search needs
+same-length c =
+    c .before .before .put-bytes .kept .1 .1 .0 ∙ c .before .before .before .before .before .before .before .put-behind .kept .1 .1 .1 .0 ∙ c .before .before .before .before .before .before .before .before .before .before .before .before .put-family2 .kept .1 .1 .1 .1 .0 ∙ c .before .before .before .before .before .before .before .before .before .before .before .before .before .before .before .before .before .put-family .kept .1 .1 .1 .1 .0 ∙ length-set (c .before .before .before .before .before .before .before .before .before .before .before .before .before .before .before .before .before .before .before .before .before .before .before .before .before .before .args .out .now) 191 _
 
 returns : tie.Need-returns
+unfolding addressParts
 returns c =
-    let s = c .before .before .before .before .before .before .before .before .before .before .before .before .before .before .before .before .before .before .before .before .before .before .before .before .before in
-    address-stored (s .args .a) (v4-long s) (v6-long s) (id-long s) _ _ _ _ _ _ _ (c .before .before .before .before .before .before .before .before .before .before .before .before .before .before .before .before .before .before .put-flag .ensures) (c .before .before .before .before .before .before .before .before .before .before .before .before .before .before .put-v4 .ensures) (c .before .before .before .before .before .before .before .before .before .before .put-v6 .ensures)
-    (c .before .before .before .before .before .before .put-cid .ensures) (c .before .before .put-token-bytes .ensures)
+    let a = c .before .before .before .before .before .before .before .before .before .before .before .before .before .before .before .before .before .before .before .before .before .before .before .before .before .before .args .a in
+    let l4 = v4-long (c .before .before .before .before .before .before .before .before .before .before .before .before .before .before .before .before .before .before .before .before .before .before .before .before .before .before) in
+    let l6 = v6-long (c .before .before .before .before .before .before .before .before .before .before .before .before .before .before .before .before .before .before .before .before .before .before .before .before .before .before) in
+    let li = id-long (c .before .before .before .before .before .before .before .before .before .before .before .before .before .before .before .before .before .before .before .before .before .before .before .before .before .before) in
+    laid (c .before .before .before .before .before .before .before .before .before .before .before .before .before .before .before .before .before .before .before .before .before .before .before .before .before .before .args .out .now) 191 (addressParts a)
+    (byte (c .before .before .before .before .before .before .before .before .before .before .before .before .before .before .before .before .before .before .before .before .flag-byte .ensures)
+    (group {k = 199} (familyParts (ofV4 (a .«address_v4»))) (c .before .before .before .before .before .before .before .before .before .before .before .before .before .before .before .before .before .put-family .ensures) (omega (arith, joined-size (familyParts (ofV4 (a .«address_v4»)))))
+    (group {k = 218} (familyParts (ofV6 (a .«address_v6»))) (c .before .before .before .before .before .before .before .before .before .before .before .before .put-family2 .ensures) (omega (arith, joined-size (familyParts (ofV6 (a .«address_v6»)))))
+    (behind {k = 239} (c .before .before .before .before .before .before .before .put-behind .ensures) refl refl (omega arith)
+    (put (c .before .before .put-bytes .ensures) refl done)))))
 
 pub put-address-spec : {M : Type 1} → statement M
 put-address-spec =
     tie.close
     (tie.spec
-    put-flag-requires
-    add-put-v4
-    put-v4-requires
-    add-put-v6
-    put-v6-requires
-    add-put-cid
-    put-cid-requires
-    add-put-token-bytes
-    put-token-bytes-requires
+    (λ c κs. search needs)
+    (λ c. search needs)
+    (λ c. search needs)
+    put-family-requires
+    (λ c. search needs)
+    put-family-requires-2
+    (λ c. search needs)
+    put-behind-requires
+    slice-aggregate-put-bytes
+    put-bytes-requires
     same-length
     returns)

@@ -1,7 +1,10 @@
 -- `image::put_ids` meets its contract. Assumes nothing.
-use mathlib.Core.Path.{_≡_}
+use native.Mathlib.Omega.{arith}
+use mathlib.Core.Path.{_≡_, refl, sym, _∙_}
 use lib.ListN.{length}
-use Rattle.image.proofs.Stores.{ids-stored}
+use Rattle.image.proofs.Places.{within}
+use Rattle.image.proofs.Stores.{group, behind, done, laid, joined-size}
+use Rattle.image.specs.Image.{optionalCidParts, idParts}
 use borrow.Author.Needs.{needs}
 use Rattle.image.proofs.put_ids.Statement.{statement}
 use Rattle.image.proofs.put_ids.Tie as tie
@@ -12,35 +15,33 @@ token-long c = search needs
 long : (c : tie.Start) → (length (c .args .original .cid .bytes) ≡ 20) × (length (c .args .initial .cid .bytes) ≡ 20) × (length (c .args .retry .cid .bytes) ≡ 20)
 long c = (search needs, search needs, search needs)
 
-put-optional-cid-requires : tie.Need-put-optional-cid-requires
-put-optional-cid-requires c κs = search needs
+slice-aggregate-put-behind : tie.Need-slice-aggregate-put-behind
+slice-aggregate-put-behind c = sym (token-long (c .before .before .before .before .before .before .before .before .before .before .before .before .before .before .before .before))
 
-put-optional-cid-requires-2 : tie.Need-put-optional-cid-requires-2
-put-optional-cid-requires-2 c κs = search needs
-
-put-optional-cid-requires-3 : tie.Need-put-optional-cid-requires-3
-put-optional-cid-requires-3 c κs = search needs
-
-put-token-requires : tie.Need-put-token-requires
-put-token-requires c κs = search needs
-
-same-length : tie.Need-same-length
-same-length c = search needs
+put-behind-requires : tie.Need-put-behind-requires
+put-behind-requires c κs =
+    within 175 (token-long (c .before .before .before .before .before .before .before .before .before .before .before .before .before .before .before .before .before)) (c .before .before .before .before .before .put-optional-cid3 .kept .1 .1 .0 ∙ c .before .before .before .before .before .before .before .before .before .put-optional-cid2 .kept .1 .1 .0 ∙ c .before .before .before .before .before .before .before .before .before .before .before .before .before .put-optional-cid .kept .1 .1 .0) (c .before .before .before .before .before .before .before .before .before .before .before .before .before .before .before .before .before .pre) tt
 
 returns : tie.Need-returns
+unfolding idParts
 returns c =
-    let s = c .before .before .before .before .before .before .before .before .before .before .before .before .before .before .before .before .before in
-    ids-stored (s .args .original) (s .args .initial) (s .args .retry) (s .args .token) (long s .0) (long s .1) (long s .2) _ _ _ _ _
-    (c .before .before .before .before .before .before .before .before .before .before .before .before .before .before .put-optional-cid .ensures) (c .before .before .before .before .before .before .before .before .before .before .put-optional-cid2 .ensures) (c .before .before .before .before .before .before .put-optional-cid3 .ensures) (c .before .before .put-token .ensures)
-    (token-long s)
+    let a = c .before .before .before .before .before .before .before .before .before .before .before .before .before .before .before .before .before .before .before .before .args in
+    let l = long (c .before .before .before .before .before .before .before .before .before .before .before .before .before .before .before .before .before .before .before .before) in
+    laid (a .out .now) 108 (idParts (a .original) (a .initial) (a .retry) (a .token))
+    (group {k = 130} (optionalCidParts (a .original)) (c .before .before .before .before .before .before .before .before .before .before .before .before .before .before .before .before .put-optional-cid .ensures) (omega (arith, joined-size (optionalCidParts (a .original)), l .0))
+    (group {k = 152} (optionalCidParts (a .initial)) (c .before .before .before .before .before .before .before .before .before .before .before .before .put-optional-cid2 .ensures) (omega (arith, joined-size (optionalCidParts (a .initial)), l .1))
+    (group {k = 174} (optionalCidParts (a .retry)) (c .before .before .before .before .before .before .before .before .put-optional-cid3 .ensures) (omega (arith, joined-size (optionalCidParts (a .retry)), l .2))
+    (behind (c .before .before .put-behind .ensures) (c .before .before .before .before .before .flag-byte .ensures) refl refl done))))
 
 pub put-ids-spec : {M : Type 1} → statement M
 put-ids-spec =
     tie.close
     (tie.spec
-    put-optional-cid-requires
-    put-optional-cid-requires-2
-    put-optional-cid-requires-3
-    put-token-requires
-    same-length
+    (λ c κs. search needs)
+    (λ c κs. search needs)
+    (λ c κs. search needs)
+    (λ c κs. search needs)
+    slice-aggregate-put-behind
+    put-behind-requires
+    (λ c. search needs)
     returns)

@@ -6,6 +6,7 @@ use lib.ListN.{length, take}
 use lib.Seq.{sets, take-all}
 use Rattle.image.specs.Image.{numbersImage}
 use Rattle.image.proofs.Stores.{numbers-more}
+use borrow.Author.Needs.{needs}
 use Rattle.image.proofs.put_numbers.Statement.{statement}
 use Rattle.image.proofs.put_numbers.Tie as tie
 
@@ -19,17 +20,23 @@ abbrev μ-loop : tie.MeasureT-loop
 loop-holds : tie.Need-loop-holds Inv-loop μ-loop
 loop-holds c = (omega arith, c .before .pre .0, refl, refl)
 
-mul-put-number : tie.Need-mul-put-number Inv-loop μ-loop
-mul-put-number c = omega arith
+mul-bytes8 : tie.Need-mul-bytes8 Inv-loop μ-loop
+mul-bytes8 c = omega arith
 
-element-copy-out-put-number : tie.Need-element-copy-out-put-number Inv-loop μ-loop
-element-copy-out-put-number c = omega arith
+element-copy-out-bytes8 : tie.Need-element-copy-out-bytes8 Inv-loop μ-loop
+element-copy-out-bytes8 c = omega arith
 
-mul-put-number-2 : tie.Need-mul-put-number-2 Inv-loop μ-loop
-mul-put-number-2 c = omega arith
+bytes8-requires : tie.Need-bytes8-requires Inv-loop μ-loop
+bytes8-requires c κs = tt
 
-put-number-requires : tie.Need-put-number-requires Inv-loop μ-loop
-put-number-requires c κs = omega arith
+slice-aggregate-put-bytes : tie.Need-slice-aggregate-put-bytes Inv-loop μ-loop
+slice-aggregate-put-bytes c = search needs
+
+mul-put-bytes : tie.Need-mul-put-bytes Inv-loop μ-loop
+mul-put-bytes c = omega arith
+
+put-bytes-requires : tie.Need-put-bytes-requires Inv-loop μ-loop
+put-bytes-requires c κs = search needs
 
 add-i : tie.Need-add-i Inv-loop μ-loop
 add-i c = omega arith
@@ -39,9 +46,9 @@ loop-less c = omega arith
 
 loop-again : tie.Need-loop-again Inv-loop μ-loop
 loop-again c =
-    let l = c .before .before .before .before .before .before .loop in
-    let a = c .before .before .before .before .before .before .before .before .args in
-    (omega arith, l .inv .1, c .before .before .put-number .kept .1 .1 .0 ∙ l .inv .2, numbers-more (a .out .now) (a .numbers .now) (l .out) _ (l .i) (omega arith) (l .inv .3) (c .before .before .put-number .ensures))
+    let l = c .before .before .before .before .before .before .before .before .loop in
+    let a = c .before .before .before .before .before .before .before .before .before .before .args in
+    (omega arith, l .inv .1, c .before .before .put-bytes .kept .1 .1 .0 ∙ l .inv .2, numbers-more (a .out .now) (a .numbers .now) (l .out) _ _ (l .i) (omega arith) (l .inv .3) (c .before .before .before .before .before .bytes8 .ensures) (c .before .before .put-bytes .ensures))
 
 same-length : tie.Need-same-length Inv-loop μ-loop
 same-length c = c .before .loop .inv .2
@@ -59,10 +66,12 @@ put-numbers-spec =
     Inv-loop
     μ-loop
     loop-holds
-    mul-put-number
-    element-copy-out-put-number
-    mul-put-number-2
-    put-number-requires
+    mul-bytes8
+    element-copy-out-bytes8
+    bytes8-requires
+    slice-aggregate-put-bytes
+    mul-put-bytes
+    put-bytes-requires
     add-i
     loop-less
     loop-again

@@ -1,40 +1,46 @@
 -- `image::put_rest` meets its contract. Assumes nothing.
-use mathlib.Core.Path.{_≡_}
+use native.Mathlib.Omega.{arith}
+use mathlib.Core.Path.{_≡_, refl, _∙_}
 use lib.ListN.{length}
-use Rattle.image.specs.Image.{addressImage}
-use Rattle.image.proofs.Stores.{address-size, rest-stored}
+use Rattle.image.proofs.Places.{within}
+use Rattle.image.proofs.Stores.{behind, done, laid, eight}
+use Rattle.image.specs.Image.{restParts}
 use borrow.Author.Needs.{needs}
 use Rattle.image.proofs.put_rest.Statement.{statement}
 use Rattle.image.proofs.put_rest.Tie as tie
 
-order-long : (c : tie.Start) → length (c .args .order .places) ≡ 21
-order-long c = search needs
+long : (c : tie.Start) → (length (c .args .reserved .payload) ≡ 16) × (length (c .args .order .places) ≡ 21)
+long c = (search needs, search needs)
 
-address-long : (c : tie.Start) → length (addressImage (c .args .address)) ≡ 64
-address-long c = address-size (c .args .address) (search needs) (search needs) (search needs) (search needs)
+put-behind-requires-2 : tie.Need-put-behind-requires-2
+put-behind-requires-2 c κs = within 265 (long (c .before .before .before .before .before .before .before .before .before .before .before .before) .0) (c .before .before .before .before .put-behind .kept .1 .1 .1 .0) (c .before .before .before .before .before .before .before .before .before .before .before .before .pre) tt
 
-payload-long : (c : tie.Start) → length (c .args .reserved .payload) ≡ 16
-payload-long c = search needs
-
-put-address-requires : tie.Need-put-address-requires
-put-address-requires c κs = search needs
-
-put-reserved-requires : tie.Need-put-reserved-requires
-put-reserved-requires c κs = search needs
-
-put-order-requires : tie.Need-put-order-requires
-put-order-requires c κs = search needs
-
-same-length : tie.Need-same-length
-same-length c = search needs
+put-behind-requires-3 : tie.Need-put-behind-requires-3
+put-behind-requires-3 c κs = within 282 (long (c .before .before .before .before .before .before .before .before .before .before .before .before .before .before .before .before .before .before) .1) (c .before .before .before .before .before .put-behind2 .kept .1 .1 .1 .0 ∙ c .before .before .before .before .before .before .before .before .before .before .put-behind .kept .1 .1 .1 .0) (c .before .before .before .before .before .before .before .before .before .before .before .before .before .before .before .before .before .before .pre) tt
 
 returns : tie.Need-returns
+unfolding restParts
 returns c =
-    let s = c .before .before .before .before .before .before .before .before .before .before .before .before .before in
-    rest-stored (s .args .address) (s .args .reserved) (s .args .order) _ _ _ _ (address-long s) (payload-long s) (order-long s)
-    (c .before .before .before .before .before .before .before .before .before .before .put-address .ensures) (c .before .before .before .before .before .before .put-reserved .ensures) (c .before .before .put-order .ensures)
+    let a = c .before .before .before .before .before .before .before .before .before .before .before .before .before .before .before .before .before .before .before .before .before .args in
+    let l = long (c .before .before .before .before .before .before .before .before .before .before .before .before .before .before .before .before .before .before .before .before .before) in
+    let n1 = eight (a .reserved .id) in
+    laid (a .out .now) 255 (restParts (a .reserved) (a .order))
+    (behind {k = 264} (c .before .before .before .before .before .before .before .before .before .before .before .before .before .put-behind .ensures) (c .before .before .before .before .before .before .before .before .before .before .before .before .before .before .before .before .flag-byte .ensures) (c .before .before .before .before .before .before .before .before .before .before .before .before .before .before .before .before .before .before .before .bytes8 .ensures) (omega (arith, n1))
+    (behind {k = 281} (c .before .before .before .before .before .before .before .before .put-behind2 .ensures) refl refl (omega (arith, l .0))
+    (behind (c .before .before .put-behind3 .ensures) (c .before .before .before .before .before .flag-byte2 .ensures) refl refl done)))
 
 pub put-rest-spec : {M : Type 1} → statement M
 put-rest-spec =
     tie.close
-    (tie.spec put-address-requires put-reserved-requires put-order-requires same-length returns)
+    (tie.spec
+    (λ c κs. search needs)
+    (λ c κs. search needs)
+    (λ c. search needs)
+    (λ c κs. search needs)
+    (λ c. search needs)
+    put-behind-requires-2
+    (λ c κs. search needs)
+    (λ c. search needs)
+    put-behind-requires-3
+    (λ c. search needs)
+    returns)

@@ -19,7 +19,7 @@ new-requires c κs = search needs
 
 returns-2 : tie.Need-returns-2
 unfolding cidIn
-returns-2 c = 
+returns-2 c =
     let h = not-false _ (c .before .before .if1 .left) in
     let a = c .before .before .before .before in
     rw (h, cid-new (c .before .new .result) (a .args .v .now) (c .before .new .ensures) (a .pre h))

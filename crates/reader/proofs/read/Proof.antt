@@ -21,17 +21,17 @@ enum-known-found-2 : tie.Need-enum-known-found-2
 enum-known-found-2 c = search needs
 
 record-of-requires : tie.Need-record-of-requires
-record-of-requires c κs = 
+record-of-requires c κs =
     let a = c .before .before .before .before .before .before .before .before .before .args in
     sound (a .side) (a .src .now) _ (sym (marks-is (indexed (a .side) (a .src .now)) _ _ (c .before .before .before .before .before .before .before .index .ensures) (c .before .before .before .found2 .given .1)))
 
 returns : tie.Need-returns
-returns c = 
+returns c =
     let a = c .before .before .before .before .before .before .before .before .args in
     read-stopped (a .side) (a .src .now) _ _ (c .refuse .ensures) (stopped-is (indexed (a .side) (a .src .now)) _ _ (c .before .before .before .before .before .before .index .ensures) (c .before .before .found .given .1))
 
 returns-2 : tie.Need-returns-2
-returns-2 c = 
+returns-2 c =
     let a = c .before .before .before .before .before .before .before .before .before .before .args in
     read-kept (a .side) (a .src .now) _ _ (c .record-of .ensures) (marks-is (indexed (a .side) (a .src .now)) _ _ (c .before .before .before .before .before .before .before .before .index .ensures) (c .before .before .before .before .found2 .given .1))
 

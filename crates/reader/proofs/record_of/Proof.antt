@@ -63,7 +63,7 @@ absent-requires-2 c κs = search needs
 
 returns : tie.Need-returns
 unfolding recordFrom
-returns c = 
+returns c =
     rw (
       c .before .before .before .before .before .before .before .before .before .before .before .before .before .before .before .numbers-of .ensures,
       c .before .before .before .before .before .before .before .before .before .is-marked .ensures,

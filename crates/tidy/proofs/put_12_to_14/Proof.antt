@@ -91,7 +91,7 @@ same-length c = search needs
 
 returns : tie.Need-returns
 unfolding laid idAt ids from12
-returns c = 
+returns c =
     let a = c .before .before .before .before .before .before .before .before .before .before .before .before .before .before .before .before .before .before .args in
     rw (← c .before .before .before .before .before .before .before .before .before .before .before .is-marked .ensures, ← c .before .before .before .before .before .is-marked2 .ensures)
     (laid-three _ _ _ 12 (a .at) _ _ _ (a .out .now) _ _ _ [] (c .before .before .before .before .before .before .before .before .before .before .before .before .before .before .put-at .ensures) (c .before .before .before .before .before .before .before .before .put-value .ensures) (c .before .before .put-number .ensures))

@@ -81,7 +81,7 @@ same-length c = search needs
 
 returns : tie.Need-returns
 unfolding laid idAt ids from15
-returns c = 
+returns c =
     let a = c .before .before .before .before .before .before .before .before .before .before .before .before .before .before .args in
     laid-three _ _ _ 15 (a .at) _ _ _ (a .out .now) _ _ _ [] (c .before .before .before .before .before .before .before .before .before .before .put-at .ensures) (c .before .before .before .before .before .before .put-at2 .ensures) (c .before .before .put-at3 .ensures)
 

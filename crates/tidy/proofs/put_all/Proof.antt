@@ -20,12 +20,12 @@ put-12-to-14-requires : tie.Need-put-12-to-14-requires
 put-12-to-14-requires c κs = (c .before .before .before .before .before .before .before .pre, laid-within _ 1 0 _ _ [] _ [] (omega arith) (c .before .before .before .put-numbers .ensures) .0)
 
 put-15-to-17-requires : tie.Need-put-15-to-17-requires
-put-15-to-17-requires c κs = 
+put-15-to-17-requires c κs =
     let a = laid-within _ 1 0 _ _ [] _ [] (omega arith) (c .before .before .before .before .before .before .before .put-numbers .ensures) .0 in
     (c .before .before .before .before .before .before .before .before .before .before .before .pre, laid-within _ 12 _ _ _ [] _ [] a (c .before .before .before .put-12-to-14 .ensures) .0)
 
 put-18-to-20-requires : tie.Need-put-18-to-20-requires
-put-18-to-20-requires c κs = 
+put-18-to-20-requires c κs =
     let a = laid-within _ 1 0 _ _ [] _ [] (omega arith) (c .before .before .before .before .before .before .before .before .before .before .before .put-numbers .ensures) .0 in
     let b = laid-within _ 12 _ _ _ [] _ [] a (c .before .before .before .before .before .before .before .put-12-to-14 .ensures) .0 in
     (c .before .before .before .before .before .before .before .before .before .before .before .before .before .before .before .pre, laid-within _ 15 _ _ _ [] _ [] b (c .before .before .before .put-15-to-17 .ensures) .0)
@@ -35,7 +35,7 @@ same-length c = search needs
 
 returns : tie.Need-returns
 unfolding pieces
-returns c = 
+returns c =
     let a = c .before .before .before .before .before .before .before .before .before .before .before .before .before .before .before .before .before .before .args in
     let s = a .src .now in
     let k = a .kept .now in

@@ -24,7 +24,7 @@ same-length : tie.Need-same-length
 same-length c = search needs
 
 returns : tie.Need-returns
-returns c = 
+returns c =
     let s = c .before .before .before .before .before .before .before in
     let w = whole-laid _ _ (s .args .out .now) [] _ [] (s .pre .1) (c .before .before .before .before .if1 .taken) (c .before .before .put-all .ensures) .wrote in
     stored-whole _ _ _ (s .args .out .now) _ (omega (arith, s .pre .1, c .before .before .before .before .if1 .taken)) w
@@ -51,7 +51,7 @@ same-length-2 : tie.Need-same-length-2
 same-length-2 c = search needs
 
 returns-3 : tie.Need-returns-3
-returns-3 c = 
+returns-3 c =
     let w = put-there (c .before .before .before .before .before .before .before) in
     let l = c .before .before .before .before .before .if2 .left in
     let k : length (take (c .before .before .before .before .before .before .before .put-all2 .result) (c .before .before .before .before .before .before .before .put-all2 .last .1 .1 .1 .1 .0)) ≤ length (c .before .before .before .before .before .before .before .before .before .before .before .before .args .out .now) = rw (whole-part _ _ _ _ _ w) (omega (arith, w .count)) in

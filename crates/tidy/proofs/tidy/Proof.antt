@@ -21,14 +21,14 @@ enum-known-found-2 : tie.Need-enum-known-found-2
 enum-known-found-2 c = search needs
 
 put-tidied-requires : tie.Need-put-tidied-requires
-put-tidied-requires c κs = 
+put-tidied-requires c κs =
     let a = c .before .before .before .before .before .before .before .before .before .before .before .args in
     let hb : Bytes (a .src .now) = λ i. c .before .before .before .before .before .before .before .before .before .before .shared-slice-known .given i .fits in
     let e = marks-is (indexed (a .side) (a .src .now)) _ _ (c .before .before .before .before .before .before .before .before .index .ensures) (c .before .before .before .before .found2 .given .1) in
     (within (a .side) (a .src .now) _ _ _ hb e, few (a .side) (a .src .now) _ _ _ hb e)
 
 returns : tie.Need-returns
-returns c = 
+returns c =
     let a = c .before .before .before .before .before .before .before .before .before .args in
     not-read (a .side) (a .src .now) (a .out .now) _ _ (c .refusal .ensures) (stopped-is (indexed (a .side) (a .src .now)) _ _ (c .before .before .before .before .before .before .index .ensures) (c .before .before .found .given .1))
 
@@ -36,7 +36,7 @@ same-length : tie.Need-same-length
 same-length c = search needs
 
 returns-2 : tie.Need-returns-2
-returns-2 c = 
+returns-2 c =
     let a = c .before .before .before .before .before .before .before .before .before .before .before .before .before .before .args in
     let hb : Bytes (a .src .now) = λ i. c .before .before .before .before .before .before .before .before .before .before .before .before .before .shared-slice-known .given i .fits in
     let e = marks-is (indexed (a .side) (a .src .now)) _ _ (c .before .before .before .before .before .before .before .before .before .before .before .index .ensures) (c .before .before .before .before .before .before .before .found2 .given .1) in

@@ -17,12 +17,18 @@ number-requires : tie.Need-number-requires
 number-requires c κs = search needs
 
 returns : tie.Need-returns
-returns c = code-in _ _ _ (c .before .before .read .ensures) (c .enum-told .given .1)
+returns c = code-in _ _ _ _ (c .before .before .read .ensures) (c .enum-told .given .1)
 
 returns-2 : tie.Need-returns-2
-returns-2 c = code-out _ _ _ (c .before .before .before .before .read .ensures) _ _ (c .before .before .answer .given .1) (c .number .ensures)
+returns-2 c = code-out _ _ _ _ (c .before .before .before .before .read .ensures) _ _ (c .before .before .answer .given .1) (c .number .ensures)
 
 pub read-once-spec : {M : Type 1} → statement M
 read-once-spec =
     tie.close
-    (tie.spec read-requires enum-told enum-known-answer number-requires returns returns-2)
+    (tie.spec
+    read-requires
+    enum-told
+    enum-known-answer
+    number-requires
+    returns
+    returns-2)

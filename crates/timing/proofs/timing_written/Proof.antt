@@ -1,6 +1,6 @@
 -- `timing::timing_written` meets its contract. Assumes nothing.
-use Rattle.timing.specs.Timing.{again}
-use Rattle.timing.proofs.Answers.{written-in, written-out}
+use Rattle.timing.proofs.Answers.{written-in, written-out, once-more}
+use mathlib.Core.Path.{refl}
 use borrow.Author.Needs.{needs}
 use Rattle.timing.proofs.timing_written.Statement.{statement}
 use Rattle.timing.proofs.timing_written.Tie as tie
@@ -14,18 +14,26 @@ enum-told c = search needs
 write-once-requires : tie.Need-write-once-requires
 write-once-requires c κs = search needs
 
-enum-told-2 : tie.Need-enum-told-2
-enum-told-2 c = search needs
+enum-known-answer : tie.Need-enum-known-answer
+enum-known-answer c = search needs
+
+number-requires : tie.Need-number-requires
+number-requires c κs = search needs
+
+cast-result : tie.Need-cast-result
+cast-result c = search needs
+
+add-result : tie.Need-add-result
+add-result c = search needs
 
 same-length : tie.Need-same-length
 same-length c = search needs
 
 returns : tie.Need-returns
-unfolding again
-returns c = written-in _ _ (c .before .before .before .before .before .before .before .record-from .ensures) _ _ _ (c .before .before .before .before .before .enum-told .given .1) (c .before .before .write-once .ensures)
+returns c = let a = c .before .before .before .before .before .before .before .before .before .before .args in written-in _ _ _ _ (c .before .before .before .before .before .before .before .record-from .ensures) 1 (a .out .now) _ (c .before .before .before .before .before .enum-told .given .1) (once-more _ 0 _ _ (a .out .now) _ (0, a .out .now) refl (c .before .before .write-once .ensures))
 
 returns-2 : tie.Need-returns-2
-returns-2 c = written-out _ _ (c .before .before .record-from .ensures) _ _ _ (c .enum-told2 .given .1)
+returns-2 c = let a = c .before .before .before .before .before .before .before .args in written-out _ _ _ _ (c .before .before .before .before .record-from .ensures) 1 (a .out .now) _ _ (c .before .before .answer .given .1) (c .number .ensures)
 
 pub timing-written-spec : {M : Type 1} → statement M
 timing-written-spec =
@@ -34,7 +42,10 @@ timing-written-spec =
     record-from-requires
     enum-told
     write-once-requires
-    enum-told-2
+    enum-known-answer
+    number-requires
+    cast-result
+    add-result
     same-length
     returns
     returns-2)

@@ -1,18 +1,19 @@
--- `timing::write_times` meets its contract. The invariant: the count and the buffer are those of `i` calls. Assumes nothing.
+-- `timing::write_times` meets its contract. The invariant: the answer and the buffer are those of `i` calls. Assumes nothing.
 use Prim.Native.Nat.{_≤_, _-_}
 use native.Mathlib.Omega.{arith}
 use mathlib.Core.Path.{_≡_, refl, ap, _∙_}
 use lib.ListN.{length}
 use Rattle.timing.specs.Timing.{again, repeat}
 use Rattle.timing.proofs.Answers.{once-more}
+use borrow.Author.Needs.{needs}
 use Rattle.timing.proofs.write_times.Statement.{statement}
 use Rattle.timing.proofs.write_times.Tie as tie
 
 abbrev Inv-loop : tie.InvT-loop
-Inv-loop r times out₀ count₀ i₀ out count i = (i ≤ times) × ((count, out) ≡ repeat i (again r) (0, out₀)) × (length out ≡ length out₀)
+Inv-loop r times out₀ answer₀ i₀ out answer i = (i ≤ times) × ((answer, out) ≡ repeat i (again r) (0, out₀)) × (length out ≡ length out₀)
 
 abbrev μ-loop : tie.MeasureT-loop
-μ-loop r times out₀ count₀ i₀ out count i = times - i
+μ-loop r times out₀ answer₀ i₀ out answer i = times - i
 
 loop-holds : tie.Need-loop-holds Inv-loop μ-loop
 loop-holds c = (omega arith, refl, refl)

@@ -52,7 +52,7 @@ same-length-2 : tie.Need-same-length-2
 same-length-2 c = search needs
 
 returns-2 : tie.Need-returns-2
-returns-2 c = 
+returns-2 c =
     let s = c .before .before .before .before .before .before .before .before .before .before .before .before .before .before in
     head-second _ _ (s .args .out .now) (s .pre) _ _ (first (c .before .before .before .before .before .before)) _ (declined _ _ _ _ (c .before .before .before .before .encode2 .ensures) _ (ap countOutcome (c .enum-told2 .given .1)))
 
@@ -63,7 +63,7 @@ same-length-3 : tie.Need-same-length-3
 same-length-3 c = search needs
 
 returns-3 : tie.Need-returns-3
-returns-3 c = 
+returns-3 c =
     let s = c .before .before .before .before .before .before .before .before .before .before .before .before .before .before .before in
     head-whole _ _ (s .args .out .now) (s .pre) _ _ (first (c .before .before .before .before .before .before .before)) _ _ (second c)
 

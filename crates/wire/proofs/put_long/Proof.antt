@@ -51,7 +51,7 @@ same-length : tie.Need-same-length
 same-length c = search needs
 
 returns-4 : tie.Need-returns-4
-returns-4 c = 
+returns-4 c =
     let h = c .before .before .before .before .before .before .before .before .before .before .before .before .before .put-head .ensures in
     long-whole _ _ _ (c .before .before .before .before .before .before .before .before .before .before .before .before .before .before .before .before .before .args .out .now) (h .0) (c .before .before .before .before .before .before .before .before .before .before .before .if1 .left) _ _ _ _ _ (omega arith) (h .1) (c .before .before .before .before .before .before .put-bytes .ensures) (c .before .before .put-bytes2 .ensures)
 

@@ -38,7 +38,7 @@ enum-told : tie.Need-enum-told
 enum-told c = search needs
 
 returns-3 : tie.Need-returns-3
-returns-3 c = 
+returns-3 c =
     let d = declined _ _ _ _ (c .before .before .before .encode .ensures) _ (ap countOutcome (c .enum-told .given .1)) in
     rw (not-false (c .before .before .before .before .before .before .before .before .args .due) (c .before .before .before .before .before .before .if1 .left), number-high (c .before .before .before .before .before .before .before .before .args .id) (c .before .before .before .before .before .before .before .before .args .x) (too-high _ (replicate 8 0) _ (omega arith) d)) (put-nil _)
 
@@ -55,7 +55,7 @@ same-length-2 : tie.Need-same-length-2
 same-length-2 c = search needs
 
 returns-4 : tie.Need-returns-4
-returns-4 c = 
+returns-4 c =
     let e = kept (c .before .before .before .before .before) in
     rw (not-false (c .before .before .before .before .before .before .before .before .before .before .before .before .before .before .args .due) (c .before .before .before .before .before .before .before .before .before .before .before .before .if1 .left), number-low (c .before .before .before .before .before .before .before .before .before .before .before .before .before .before .args .id) (c .before .before .before .before .before .before .before .before .before .before .before .before .before .before .args .x) (e .low), ← encoded-part _ _ _ _ e) (c .before .before .put-value .ensures)
 

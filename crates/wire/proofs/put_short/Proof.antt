@@ -45,7 +45,7 @@ same-length : tie.Need-same-length
 same-length c = search needs
 
 returns-2 : tie.Need-returns-2
-returns-2 c = 
+returns-2 c =
     let s = c .before .before .before .before .before .before .before in
     let o = s .args .out .now in
     short-whole _ _ o (s .pre .0) (s .pre .1) _ _ (omega arith) refl (stored _ _ _ _ (behind _ 2 o (omega arith)) (c .before .before .put-bytes .ensures))

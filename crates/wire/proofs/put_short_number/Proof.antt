@@ -38,7 +38,7 @@ same-length : tie.Need-same-length
 same-length c = search needs
 
 returns-2 : tie.Need-returns-2
-returns-2 c = 
+returns-2 c =
     let s = c .before .before .before .before .before .before .before .before in
     let o = s .args .out .now in
     number-declined _ _ o (s .pre) _ (omega arith) (declined _ _ (lent 2 o) _ (c .before .before .before .before .encode .ensures) _ (ap countOutcome (c .enum-told .given .1)))
@@ -62,7 +62,7 @@ same-length-2 : tie.Need-same-length-2
 same-length-2 c = search needs
 
 returns-3 : tie.Need-returns-3
-returns-3 c = 
+returns-3 c =
     let s = c .before .before .before .before .before .before .before .before .before in
     let o = s .args .out .now in
     number-whole _ _ o (s .pre) _ _ (omega arith) (kept c)

@@ -16,7 +16,7 @@ same-length : tie.Need-same-length
 same-length c = search needs
 
 returns-2 : tie.Need-returns-2
-returns-2 c = 
+returns-2 c =
     let a = c .before .before .before .before .before .before .before .before .before .args in
     rw (← value-short (a .id) (a .v .now) (a .due) (not-false _ (c .before .before .before .before .before .before .if1 .left)) (omega arith) (omega arith)) (c .before .before .put-short .ensures)
 

@@ -3,6 +3,8 @@ use Prim.Native.Nat.{_+_, _^_, _<_}
 use mathlib.Core.Path.{refl, _∙_}
 use lib.ListN.{length}
 use native.Mathlib.Omega.{arith}
+use native.Mathlib.Nat.{le-refl}
+use borrow.Author.Tests.{ltb-true}
 use Rattle.catalogue.specs.Catalogue.{ids, idAt}
 use Rattle.wire.proofs.Stored.{back}
 use Rattle.wire.proofs.Put.{Behind, put-behind}
@@ -26,10 +28,10 @@ three : (c : tie.After-slice-known4) → Behind (c .before .before .before .befo
 three c = put-behind _ _ _ _ _ (two (c .before .before .before .before) .within) (c .before .before .put-cid .ensures)
 
 is-present-requires : tie.Need-is-present-requires
-is-present-requires c κs = search needs
+is-present-requires c κs = tt
 
 or-zero-requires : tie.Need-or-zero-requires
-or-zero-requires c κs = search needs
+or-zero-requires c κs = tt
 
 sub-put-number : tie.Need-sub-put-number
 sub-put-number c = search needs
@@ -38,10 +40,10 @@ part-put-number-start : tie.Need-part-put-number-start
 part-put-number-start c = search needs
 
 part-put-number-end : tie.Need-part-put-number-end
-part-put-number-end c = search needs
+part-put-number-end c = le-refl _
 
 put-number-requires : tie.Need-put-number-requires
-put-number-requires c κs = search needs
+put-number-requires c κs = tt
 
 add-a : tie.Need-add-a
 add-a c = fits-behind (one c) (refl) (room c)
@@ -53,7 +55,7 @@ part-put-address-start : tie.Need-part-put-address-start
 part-put-address-start c = one c .within
 
 part-put-address-end : tie.Need-part-put-address-end
-part-put-address-end c = search needs
+part-put-address-end c = le-refl _
 
 put-address-requires : tie.Need-put-address-requires
 put-address-requires c κs = search needs
@@ -68,7 +70,7 @@ part-put-cid-start : tie.Need-part-put-cid-start
 part-put-cid-start c = two c .within
 
 part-put-cid-end : tie.Need-part-put-cid-end
-part-put-cid-end c = search needs
+part-put-cid-end c = le-refl _
 
 put-cid-requires : tie.Need-put-cid-requires
 put-cid-requires c κs = search needs
@@ -77,20 +79,20 @@ add-end : tie.Need-add-end
 add-end c = fits-behind (three c) (two (c .before .before .before .before) .same ∙ one (c .before .before .before .before .before .before .before .before) .same) (room (c .before .before .before .before .before .before .before .before))
 
 element-write-starts : tie.Need-element-write-starts
-element-write-starts c = search needs
+element-write-starts c = ltb-true 15 22 refl
 
 element-write-starts-2 : tie.Need-element-write-starts-2
-element-write-starts-2 c = search needs
+element-write-starts-2 c = ltb-true 16 22 refl
 
 element-write-starts-3 : tie.Need-element-write-starts-3
-element-write-starts-3 c = search needs
+element-write-starts-3 c = ltb-true 17 22 refl
 
 same-length : tie.Need-same-length
-same-length c = search needs
+same-length c = three c .same ∙ two (c .before .before .before .before) .same ∙ one (c .before .before .before .before .before .before .before .before) .same
 
 returns : tie.Need-returns
 unfolding laid idAt ids
-returns c = 
+returns c =
     let a = c .before .before .before .before .before .before .before .before .before .before .before .before .before .before .before .args in
     laid-three _ _ _ 15 (a .at) _ _ _ (a .out .now) _ _ _ (a .starts .now)
     (rw (c .before .before .before .before .before .before .before .before .before .before .before .before .before .is-present .ensures, c .before .before .before .before .before .before .before .before .before .before .before .before .or-zero .ensures) at (c .before .before .before .before .before .before .before .before .before .before .put-number .ensures))

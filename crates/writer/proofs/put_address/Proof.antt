@@ -18,7 +18,7 @@ slice-aggregate-put-address-value : tie.Need-slice-aggregate-put-address-value
 slice-aggregate-put-address-value c = search needs
 
 put-address-value-requires : tie.Need-put-address-value-requires
-put-address-value-requires c κs = let s = c .before .before .before .before .before .before .before .before in (address-id (s .args .a) (s .pre), omega arith)
+put-address-value-requires c κs = let s = c .before .before .before .before in (address-id (s .args .a) (s .pre), omega arith)
 
 array-share-prefix-value : tie.Need-array-share-prefix-value
 array-share-prefix-value c = search needs
@@ -34,9 +34,9 @@ same-length c = search needs
 
 returns-2 : tie.Need-returns-2
 unfolding idAt ids
-returns-2 c = 
+returns-2 c =
     let w = c .before .before .before .before .before .before .put-address-value .ensures in
-    rw (not-false (c .before .before .before .before .before .before .before .before .before .before .before .before .before .before .before .args .a .present) (c .before .before .before .before .before .before .before .before .before .before .before .before .if1 .left), ← whole-part _ _ _ _ _ w) (c .before .before .put-value .ensures)
+    rw (not-false (c .before .before .before .before .before .before .before .before .before .before .before .args .a .present) (c .before .before .before .before .before .before .before .before .if1 .left), ← whole-part _ _ _ _ _ w) (c .before .before .put-value .ensures)
 
 pub put-address-spec : {M : Type 1} → statement M
 put-address-spec =

@@ -8,10 +8,10 @@ wide-requires : tie.Need-wide-requires
 wide-requires c κs = search needs
 
 array-share-prefix-bytes : tie.Need-array-share-prefix-bytes
-array-share-prefix-bytes c = let s = c .before .before .before .before in prefix _ _ (s .args .o .cid .bytes) (cid-room (s .args .o) (s .pre)) (c .before .wide .ensures) .0
+array-share-prefix-bytes c = let s = c .before .before .before in prefix _ _ (s .args .o .cid .bytes) (cid-room (s .args .o) (s .pre)) (c .before .wide .ensures) .0
 
 slice-aggregate-put-value : tie.Need-slice-aggregate-put-value
-slice-aggregate-put-value c = let s = c .before .before .before .before .before in prefix _ _ (s .args .o .cid .bytes) (cid-room (s .args .o) (s .pre)) (c .before .before .wide .ensures) .1
+slice-aggregate-put-value c = let s = c .before .before .before .before in prefix _ _ (s .args .o .cid .bytes) (cid-room (s .args .o) (s .pre)) (c .before .before .wide .ensures) .1
 
 put-value-requires : tie.Need-put-value-requires
 put-value-requires c κs = search needs

@@ -1,44 +1,75 @@
 -- `writer::write` meets its contract: the tests that led to each `return` pick the case of the definition. Assumes nothing.
-use mathlib.Core.Path.{sym, _∙_}
+use native.Mathlib.Omega.{arith}
+use mathlib.Core.Path.{_≡_, refl, ap, sym, _∙_}
+use mathlib.Core.Bool.{true}
+use mathlib.Core.List.{List}
+use Prim.Native.Nat.{ℕ}
+use lib.ListN.{replicate}
 use borrow.Author.Tests.{not-true, not-false}
-use Rattle.writer.proofs.Answers.{write-ill, write-in-catalogue}
+use Rattle.refusal.specs.Outcome.{store}
+use Rattle.record.specs.Record.{wellFormed}
+use Rattle.order.specs.Order.{permutation}
+use Rattle.writer.specs.Writing.{maxExtension, orderOf}
+use Rattle.writer.proofs.Places.{formed}
+use Rattle.writer.proofs.Answers.{due, ready, write-ill, write-invalid, write-stored}
 use borrow.Author.Needs.{needs}
 use Rattle.writer.proofs.write.Statement.{statement}
 use Rattle.writer.proofs.write.Tie as tie
 
-write-in-order-requires : tie.Need-write-in-order-requires
-write-in-order-requires c κs = search needs
+-- what the tests say
+well : (c : tie.Else1) → wellFormed (c .before .before .before .args .r) ≡ true
+well c = sym (c .before .is-well-formed .ensures) ∙ not-false _ (c .if1 .left)
 
-same-length : tie.Need-same-length
-same-length c = search needs
-
-returns : tie.Need-returns
-returns c = search needs
+orderly : (c : tie.Else2) → permutation (orderOf (c .before .before .before .before .before .before .before .args .r .«write_order»)) ≡ true
+unfolding orderOf
+orderly c = sym (c .before .is-order .ensures) ∙ not-false _ (c .if2 .left)
 
 is-well-formed-requires : tie.Need-is-well-formed-requires
 is-well-formed-requires c κs = search needs
 
+returns : tie.Need-returns
+returns c = write-ill _ _ (sym (c .before .is-well-formed .ensures) ∙ not-true _ (c .if1 .taken))
+
+is-order-requires : tie.Need-is-order-requires
+is-order-requires c κs = formed _ (well (c .before .before)) .order
+
 returns-2 : tie.Need-returns-2
-returns-2 c = write-ill _ _ (sym (c .before .is-well-formed .ensures) ∙ not-true _ (c .if2 .taken))
+unfolding orderOf
+returns-2 c = write-invalid _ _ (well (c .before .before .before .before)) (sym (c .before .is-order .ensures) ∙ not-true _ (c .if2 .taken))
 
-write-unordered-requires : tie.Need-write-unordered-requires
-write-unordered-requires c κs = sym (c .before .before .is-well-formed .ensures) ∙ not-false _ (c .before .if2 .left)
+slice-aggregate-put-catalogue : tie.Need-slice-aggregate-put-catalogue
+slice-aggregate-put-catalogue c = search needs
 
-same-length-2 : tie.Need-same-length-2
-same-length-2 c = search needs
+put-catalogue-requires : tie.Need-put-catalogue-requires
+put-catalogue-requires c κs = (well (c .before .before .before .before .before .before), refl)
+
+slice-aggregate-put-laid : tie.Need-slice-aggregate-put-laid
+slice-aggregate-put-laid c = search needs
+
+put-laid-requires : tie.Need-put-laid-requires
+put-laid-requires c κs = ready (c .before .before .before .before .before .before .before .before .before .before .before .before .before .before .before .args .r) (well (c .before .before .before .before .before .before .before .before .before .before .before .before)) _ (replicate maxExtension 0) _ _ (omega arith) (orderly (c .before .before .before .before .before .before .before .before)) (c .before .before .before .before .before .put-catalogue .ensures)
+
+same-length : tie.Need-same-length
+same-length c = search needs
 
 returns-3 : tie.Need-returns-3
-returns-3 c = c .before .before .write-unordered .ensures ∙ write-in-catalogue _ _ (sym (c .before .before .before .before .before .is-well-formed .ensures) ∙ not-false _ (c .before .before .before .before .if2 .left)) (c .before .before .before .before .before .before .if1 .left)
+returns-3 c =
+    let a = c .before .before .before .before .before .before .before .before .before .before .before .before .before .before .before .before .before .before .args in
+    let p = orderly (c .before .before .before .before .before .before .before .before .before .before .before) in
+    let d = due (a .r) (well (c .before .before .before .before .before .before .before .before .before .before .before .before .before .before .before)) _ (replicate maxExtension 0) _ _ (omega arith) p (c .before .before .before .before .before .before .before .before .put-catalogue .ensures) in
+    c .before .before .put-laid .ensures ∙ ap (λ (bs : List ℕ). store bs (a .out .now)) d ∙ write-stored (a .r) (a .out .now) (well (c .before .before .before .before .before .before .before .before .before .before .before .before .before .before .before)) p
 
 pub write-spec : {M : Type 1} → statement M
 write-spec =
     tie.close
     (tie.spec
-    write-in-order-requires
-    same-length
-    returns
     is-well-formed-requires
+    returns
+    is-order-requires
     returns-2
-    write-unordered-requires
-    same-length-2
+    slice-aggregate-put-catalogue
+    put-catalogue-requires
+    slice-aggregate-put-laid
+    put-laid-requires
+    same-length
     returns-3)

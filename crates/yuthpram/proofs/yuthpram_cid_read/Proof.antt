@@ -5,24 +5,6 @@ use borrow.Author.Needs.{needs}
 use Rattle.yuthpram.proofs.yuthpram_cid_read.Statement.{statement}
 use Rattle.yuthpram.proofs.yuthpram_cid_read.Tie as tie
 
-decode-long-requires : tie.Need-decode-long-requires
-decode-long-requires c κs = search needs
-
-enum-known-answer : tie.Need-enum-known-answer
-enum-known-answer c = search needs
-
-store-cid-requires : tie.Need-store-cid-requires
-store-cid-requires c κs = search needs
-
-enum-known-answer-2 : tie.Need-enum-known-answer-2
-enum-known-answer-2 c = search needs
-
-number-requires : tie.Need-number-requires
-number-requires c κs = search needs
-
-same-length : tie.Need-same-length
-same-length c = search needs
-
 returns : tie.Need-returns
 unfolding cidRead
 returns c = given-counted _ cidStore _ _ _ _ (decoded-in _ _ (c .before .before .before .before .before .before .before .before .before .decode-long .ensures) _ (c .before .before .before .before .before .before .before .answer .given .1)) (c .before .before .store-cid .ensures)
@@ -35,11 +17,11 @@ pub yuthpram-cid-read-spec : {M : Type 1} → statement M
 yuthpram-cid-read-spec =
     tie.close
     (tie.spec
-    decode-long-requires
-    enum-known-answer
-    store-cid-requires
-    enum-known-answer-2
-    number-requires
-    same-length
+    (λ c κs. search needs)
+    (λ c. search needs)
+    (λ c κs. search needs)
+    (λ c. search needs)
+    (λ c κs. search needs)
+    (λ c. search needs)
     returns
     returns-2)

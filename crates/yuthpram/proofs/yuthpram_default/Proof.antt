@@ -1,22 +1,13 @@
 -- `yuthpram::yuthpram_default` meets its contract. Assumes nothing.
-use Rattle.yuthpram.specs.Interface.{recordDefault}
+use mathlib.Core.Path.{ap, _∙_}
+use Rattle.yuthpram.specs.Interface.{coded, recordStore, recordDefault}
 use borrow.Author.Needs.{needs}
 use Rattle.yuthpram.proofs.yuthpram_default.Statement.{statement}
 use Rattle.yuthpram.proofs.yuthpram_default.Tie as tie
 
-default-requires : tie.Need-default-requires
-default-requires c κs = search needs
-
-store-record-requires : tie.Need-store-record-requires
-store-record-requires c κs = search needs
-
-same-length : tie.Need-same-length
-same-length c = search needs
-
 returns : tie.Need-returns
 unfolding recordDefault
-returns c = rw (← c .before .before .before .before .default .ensures) (c .before .before .store-record .ensures)
+returns c = c .before .before .store-record .ensures ∙ ap (λ r. coded (recordStore r (c .before .before .before .before .before .before .args .«record» .now))) (c .before .before .before .before .default .ensures)
 
 pub yuthpram-default-spec : {M : Type 1} → statement M
-yuthpram-default-spec =
-    tie.close (tie.spec default-requires store-record-requires same-length returns)
+yuthpram-default-spec = tie.close (tie.spec (λ c κs. search needs) (λ c κs. search needs) (λ c. search needs) returns)

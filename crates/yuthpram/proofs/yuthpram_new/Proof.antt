@@ -1,66 +1,40 @@
 -- `yuthpram::yuthpram_new` meets its contract. Assumes nothing.
+use mathlib.Core.Path.{sym, _∙_}
 use Rattle.yuthpram.specs.Interface.{recordNew, recordStore}
-use Rattle.yuthpram.proofs.Answers.{given-coded, not-coded, other-count, built-in, built-out}
+use Rattle.yuthpram.proofs.Answers.{given-coded, not-coded, other-count, built, answered-in, answered-out}
 use borrow.Author.Needs.{needs}
 use Rattle.yuthpram.proofs.yuthpram_new.Statement.{statement}
 use Rattle.yuthpram.proofs.yuthpram_new.Tie as tie
-
-number-requires : tie.Need-number-requires
-number-requires c κs = search needs
 
 returns : tie.Need-returns
 unfolding recordNew
 returns c = not-coded _ recordStore _ _ _ (other-count _ _ _ _ _ (c .before .if1 .taken)) (c .number .ensures)
 
-id-of-requires : tie.Need-id-of-requires
-id-of-requires c κs = search needs
-
-settings-from-requires : tie.Need-settings-from-requires
-settings-from-requires c κs = search needs
-
-new-requires : tie.Need-new-requires
-new-requires c κs = search needs
-
-enum-told : tie.Need-enum-told
-enum-told c = search needs
-
-store-record-requires : tie.Need-store-record-requires
-store-record-requires c κs = search needs
-
-enum-known-answer : tie.Need-enum-known-answer
-enum-known-answer c = search needs
-
-number-requires-2 : tie.Need-number-requires-2
-number-requires-2 c κs = search needs
-
-same-length : tie.Need-same-length
-same-length c = search needs
-
 returns-2 : tie.Need-returns-2
 unfolding recordNew
 returns-2 c =
-    let e = built-in _ _ _ _ _ (c .before .before .before .before .before .before .before .before .before .before .if1 .left) _ _ (c .before .before .before .before .before .before .before .before .settings-from .ensures) (c .before .before .before .before .before .before .before .before .before .id-of .ensures) _ (c .before .before .before .before .before .before .before .new .ensures) (c .before .before .before .before .before .enum-told .given .1) in
-    given-coded _ recordStore _ _ _ e (c .before .before .store-record .ensures)
+    let b = built _ _ _ _ _ (c .before .before .before .before .before .before .before .before .before .before .if1 .left) _ _ (c .before .before .before .before .before .before .before .before .settings-from .ensures) (c .before .before .before .before .before .before .before .before .before .id-of .ensures) in
+    given-coded _ recordStore _ _ _ (sym b ∙ answered-in _ _ _ _ (c .before .before .before .before .before .before .before .new .ensures) (c .before .before .before .before .before .enum-told .given .1)) (c .before .before .store-record .ensures)
 
 returns-3 : tie.Need-returns-3
 unfolding recordNew
 returns-3 c =
-    let e = built-out _ _ _ _ _ (c .before .before .before .before .before .before .before .if1 .left) _ _ (c .before .before .before .before .before .settings-from .ensures) (c .before .before .before .before .before .before .id-of .ensures) _ (c .before .before .before .before .new .ensures) _ (c .before .before .answer .given .1) in
-    not-coded _ recordStore _ _ _ e (c .number2 .ensures)
+    let b = built _ _ _ _ _ (c .before .before .before .before .before .before .before .if1 .left) _ _ (c .before .before .before .before .before .settings-from .ensures) (c .before .before .before .before .before .before .id-of .ensures) in
+    not-coded _ recordStore _ _ _ (sym b ∙ answered-out _ _ _ _ (c .before .before .before .before .new .ensures) _ (c .before .before .answer .given .1)) (c .number2 .ensures)
 
 pub yuthpram-new-spec : {M : Type 1} → statement M
 yuthpram-new-spec =
     tie.close
     (tie.spec
-    number-requires
+    (λ c κs. search needs)
     returns
-    id-of-requires
-    settings-from-requires
-    new-requires
-    enum-told
-    store-record-requires
-    enum-known-answer
-    number-requires-2
-    same-length
+    (λ c κs. search needs)
+    (λ c κs. search needs)
+    (λ c κs. search needs)
+    (λ c. search needs)
+    (λ c κs. search needs)
+    (λ c. search needs)
+    (λ c κs. search needs)
+    (λ c. search needs)
     returns-2
     returns-3)

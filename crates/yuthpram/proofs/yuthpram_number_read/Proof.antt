@@ -7,18 +7,6 @@ use borrow.Author.Needs.{needs}
 use Rattle.yuthpram.proofs.yuthpram_number_read.Statement.{statement}
 use Rattle.yuthpram.proofs.yuthpram_number_read.Tie as tie
 
-decode-requires : tie.Need-decode-requires
-decode-requires c κs = search needs
-
-enum-known-v : tie.Need-enum-known-v
-enum-known-v c = search needs
-
-enum-known-refusal : tie.Need-enum-known-refusal
-enum-known-refusal c = search needs
-
-number-requires : tie.Need-number-requires
-number-requires c κs = search needs
-
 returns : tie.Need-returns
 unfolding numberRead
 returns c = number-done _ _ (c .before .before .before .decode .ensures) _ _ _ _ (ap readOutcome (c .before .v .given .1))
@@ -30,4 +18,10 @@ returns-2 c = number-refused _ _ (c .before .before .before .before .decode .ens
 pub yuthpram-number-read-spec : {M : Type 1} → statement M
 yuthpram-number-read-spec =
     tie.close
-    (tie.spec decode-requires enum-known-v enum-known-refusal number-requires returns returns-2)
+    (tie.spec
+    (λ c κs. search needs)
+    (λ c. search needs)
+    (λ c. search needs)
+    (λ c κs. search needs)
+    returns
+    returns-2)
