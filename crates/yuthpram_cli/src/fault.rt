@@ -40,21 +40,17 @@ struct Culprit {
 }
 
 pub fn refused(r: Refusal) -> Status {
-    let number = r.number() as usize;
-    note(b"refused ");
-    note_number(number as u64);
-    note(b": ");
-    let texts = b"-
-malformed
-a value that is not allowed
-the input ends within the number
-the number is 2^62 or more
-the output is too short
-the order is not a permutation of 0 to 20
-the record is not well formed
-a remembered limit is reduced
-a drawn value is out of range";
-    note_line(texts, number);
+    let refusals = b"-
+refused 1: malformed
+refused 2: a value that is not allowed
+refused 3: the input ends within the number
+refused 4: the number is 2^62 or more
+refused 5: the output is too short
+refused 6: the order is not a permutation of 0 to 20
+refused 7: the record is not well formed
+refused 8: a remembered limit is reduced
+refused 9: a drawn value is out of range";
+    note_line(refusals, r.number() as usize);
     Status::Refused
 }
 
@@ -136,38 +132,29 @@ fn locate(side: Side, src: &[u8]) -> Culprit {
     }
 }
 
-// Why a value does not fit its length, by its line of the causes.
-fn misfit(place: usize) -> usize {
-    match place {
-        STATELESS_RESET_TOKEN => 1,
-        DISABLE_ACTIVE_MIGRATION | GREASE_QUIC_BIT => 2,
-        PREFERRED_ADDRESS => 3,
-        ORIGINAL_DST_CID | INITIAL_SRC_CID | RETRY_SRC_CID => 4,
-        _ => 5,
-    }
-}
-
-// Which rule a value breaks.
-fn rule(side: Side, place: usize) -> usize {
-    match place {
-        MAX_UDP_PAYLOAD_SIZE => 6,
-        INITIAL_MAX_STREAMS_BIDI | INITIAL_MAX_STREAMS_UNI => 7,
-        ACK_DELAY_EXPONENT => 8,
-        MAX_ACK_DELAY => 9,
-        ACTIVE_CONNECTION_ID_LIMIT => 10,
-        MIN_ACK_DELAY => 11,
-        _ => match side {
-            Side::Client => 12,
-            Side::Server => 13,
-        },
-    }
-}
-
+// What is wrong with a parameter, by its line of the causes: a second copy, a rule that its value breaks, or a value that does not fit its length.
 fn cause(side: Side, fault: Fault, place: usize) -> usize {
     match fault {
         Fault::SecondCopy => 0,
-        Fault::Illegal => rule(side, place),
-        _ => misfit(place),
+        Fault::Illegal => match place {
+            MAX_UDP_PAYLOAD_SIZE => 6,
+            INITIAL_MAX_STREAMS_BIDI | INITIAL_MAX_STREAMS_UNI => 7,
+            ACK_DELAY_EXPONENT => 8,
+            MAX_ACK_DELAY => 9,
+            ACTIVE_CONNECTION_ID_LIMIT => 10,
+            MIN_ACK_DELAY => 11,
+            _ => match side {
+                Side::Client => 12,
+                Side::Server => 13,
+            },
+        },
+        _ => match place {
+            STATELESS_RESET_TOKEN => 1,
+            DISABLE_ACTIVE_MIGRATION | GREASE_QUIC_BIT => 2,
+            PREFERRED_ADDRESS => 3,
+            ORIGINAL_DST_CID | INITIAL_SRC_CID | RETRY_SRC_CID => 4,
+            _ => 5,
+        },
     }
 }
 

@@ -112,18 +112,20 @@ fn say_present(row: usize, image: &[u8]) {
         ADDRESS_V6 => say_family(image, at, 16),
         _ => say_value(row, number_at(image, at, 8)),
     }
+    say(b"\n");
 }
 
 fn show_row(row: usize, image: &[u8]) {
     say_label(row);
     if row < NUMBERS || byte(image, flag_at(row), 0) == 1 {
         say_present(row, image);
-    } else if row == DISABLE_ACTIVE_MIGRATION || row == GREASE_QUIC_BIT {
-        say(b"not set");
-    } else {
-        say(b"absent");
+        return;
     }
-    say(b"\n");
+    if row == DISABLE_ACTIVE_MIGRATION || row == GREASE_QUIC_BIT {
+        say(b"not set\n");
+    } else {
+        say(b"absent\n");
+    }
 }
 
 // The places of the catalogue, without the reserved parameter's; the parts of an address behind it, if it is there.
