@@ -117,13 +117,14 @@ pub fn tidy(side: Side, src: &[u8]) -> Status {
     match stored {
         Counted::Refused(r) => explain(side, r, src),
         Counted::Count(n) => {
+            say_stored(stored, &out);
             if n <= src.len() {
                 put_count(STDERR_FILENO, src.len() - n);
                 note(b" saved, ");
             }
             put_count(STDERR_FILENO, n);
             note(b" left\n");
-            say_stored(stored, &out)
+            Status::Answered
         }
     }
 }

@@ -14,11 +14,9 @@ use input::SideWord;
 use input::choice;
 use input::first;
 use input::is_followed;
+use out::STATUS_FILENO;
 use out::Status;
 use text::DecimalText;
-
-// Where the wrapper learns how the program ended, which has no exit status of its own.
-const STATUS_FILENO: i32 = 3;
 
 // The commands, by their place in the list of words.
 const READ: usize = 0;
