@@ -112,6 +112,25 @@ pub const IDS: [u64; PLACES] = [
     0xff04de1b,
 ];
 
+// Those of the places that hold no plain number, by name.
+pub const STATELESS_RESET_TOKEN_ID: u64 = IDS[STATELESS_RESET_TOKEN];
+
+pub const DISABLE_ACTIVE_MIGRATION_ID: u64 = IDS[DISABLE_ACTIVE_MIGRATION];
+
+pub const MAX_DATAGRAM_FRAME_SIZE_ID: u64 = IDS[MAX_DATAGRAM_FRAME_SIZE];
+
+pub const PREFERRED_ADDRESS_ID: u64 = IDS[PREFERRED_ADDRESS];
+
+pub const ORIGINAL_DST_CID_ID: u64 = IDS[ORIGINAL_DST_CID];
+
+pub const INITIAL_SRC_CID_ID: u64 = IDS[INITIAL_SRC_CID];
+
+pub const RETRY_SRC_CID_ID: u64 = IDS[RETRY_SRC_CID];
+
+pub const GREASE_QUIC_BIT_ID: u64 = IDS[GREASE_QUIC_BIT];
+
+pub const MIN_ACK_DELAY_ID: u64 = IDS[MIN_ACK_DELAY];
+
 // The defaults of the plain numbers.
 pub const DEFAULTS: [u64; NUMBERS] = [0, 65527, 0, 0, 0, 0, 0, 0, 3, 25, 2];
 

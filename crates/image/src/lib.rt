@@ -26,6 +26,7 @@ use refusal::Answer;
 use refusal::Counted;
 use refusal::Refusal;
 use words::and;
+use words::low;
 use words::or;
 use words::word2;
 use words::word8;
@@ -326,13 +327,6 @@ fn flag_byte(b: bool) -> u8
     ensures { λ r. ⌜ r ≡ flagByte b ⌝ }
 {
     if b { 1 } else { 0 }
-}
-
-// The low byte of a number.
-fn low(x: u64) -> u8
-    ensures { λ r. ⌜ r ≡ x % 256 ⌝ }
-{
-    (x % 256) as u8
 }
 
 // The eight bytes of a number, high byte first.

@@ -2,7 +2,7 @@
 // record of this, and tidying the shortest form.
 ghost use mathlib.Core.Path.{_≡_};
 ghost use mathlib.Core.Bool.{true};
-ghost use Prim.Native.Nat.{_+_, _%_, _<_};
+ghost use Prim.Native.Nat.{_+_, _<_};
 ghost use lib.ListN.{length, getD, replicate};
 ghost use Rattle.words.specs.Words.{elements};
 ghost use Rattle.catalogue.specs.Catalogue.{places};
@@ -24,6 +24,7 @@ use marks::with_mark;
 use rules::Microseconds;
 use rules::Side;
 use value::Value;
+use words::low;
 
 // What was found in an extension: the marks of the places met, or what is wrong.
 pub enum Scanned {
@@ -64,13 +65,6 @@ const INITIAL: [u64; PLACES] = [
     0,
 ];
 
-// The low byte of a number.
-fn low(n: usize) -> u8
-    ensures { λ r. ⌜ r ≡ n % 256 ⌝ }
-{
-    (n % 256) as u8
-}
-
 // Goes through the parameters.
 fn scan(src: &[u8], kept: &mut [u64; PLACES], lens: &mut [u8; PLACES]) -> Scanned
     requires { ⌜ (now kept ≡ initialKept) × (now lens ≡ replicate places 0) ⌝ }
@@ -88,7 +82,7 @@ fn scan(src: &[u8], kept: &mut [u64; PLACES], lens: &mut [u8; PLACES]) -> Scanne
             match value::receive(met, place, start, &src[start..end]) {
                 Value::Fits(x) => {
                     kept[place] = x;
-                    lens[place] = low(end - start);
+                    lens[place] = low((end - start) as u64);
                     marks = with_mark(marks, place);
                 }
                 Value::Wrong(fault) => {

@@ -15,18 +15,27 @@ ghost use Rattle.tidy.specs.Tidying.{tidy};
 ghost use Rattle.tidy.specs.Pieces.{spanAt, Kept, from12, from15, from18, pieces};
 use catalogue::DEFAULTS;
 use catalogue::DISABLE_ACTIVE_MIGRATION;
+use catalogue::DISABLE_ACTIVE_MIGRATION_ID;
 use catalogue::GREASE_QUIC_BIT;
+use catalogue::GREASE_QUIC_BIT_ID;
 use catalogue::IDS;
 use catalogue::INITIAL_SRC_CID;
+use catalogue::INITIAL_SRC_CID_ID;
 use catalogue::MAX_DATAGRAM_FRAME_SIZE;
+use catalogue::MAX_DATAGRAM_FRAME_SIZE_ID;
 use catalogue::MAX_EXTENSION;
 use catalogue::MIN_ACK_DELAY;
+use catalogue::MIN_ACK_DELAY_ID;
 use catalogue::NUMBERS;
 use catalogue::ORIGINAL_DST_CID;
+use catalogue::ORIGINAL_DST_CID_ID;
 use catalogue::PLACES;
 use catalogue::PREFERRED_ADDRESS;
+use catalogue::PREFERRED_ADDRESS_ID;
 use catalogue::RETRY_SRC_CID;
+use catalogue::RETRY_SRC_CID_ID;
 use catalogue::STATELESS_RESET_TOKEN;
+use catalogue::STATELESS_RESET_TOKEN_ID;
 use index::Scanned;
 use marks::is_marked;
 use refusal::Counted;
@@ -35,24 +44,6 @@ use rules::Side;
 use wire::put_bytes;
 use wire::put_number;
 use wire::put_value;
-
-const TOKEN_ID: u64 = IDS[STATELESS_RESET_TOKEN];
-
-const MIGRATION_ID: u64 = IDS[DISABLE_ACTIVE_MIGRATION];
-
-const DATAGRAM_ID: u64 = IDS[MAX_DATAGRAM_FRAME_SIZE];
-
-const ADDRESS_ID: u64 = IDS[PREFERRED_ADDRESS];
-
-const ORIGINAL_ID: u64 = IDS[ORIGINAL_DST_CID];
-
-const INITIAL_ID: u64 = IDS[INITIAL_SRC_CID];
-
-const RETRY_ID: u64 = IDS[RETRY_SRC_CID];
-
-const GREASE_ID: u64 = IDS[GREASE_QUIC_BIT];
-
-const ACK_DELAY_ID: u64 = IDS[MIN_ACK_DELAY];
 
 // The value that was found at a place.
 fn put_at(
@@ -102,7 +93,7 @@ fn put_12_to_14(
     let a = at
         + put_at(
             STATELESS_RESET_TOKEN,
-            TOKEN_ID,
+            STATELESS_RESET_TOKEN_ID,
             src,
             marks,
             kept,
@@ -112,14 +103,14 @@ fn put_12_to_14(
     let b = a
         + put_value(
             is_marked(marks, DISABLE_ACTIVE_MIGRATION),
-            MIGRATION_ID,
+            DISABLE_ACTIVE_MIGRATION_ID,
             &[],
             &mut out[a..],
         );
     b
         + put_number(
             is_marked(marks, MAX_DATAGRAM_FRAME_SIZE),
-            DATAGRAM_ID,
+            MAX_DATAGRAM_FRAME_SIZE_ID,
             kept[MAX_DATAGRAM_FRAME_SIZE],
             &mut out[b..],
         )
@@ -139,7 +130,7 @@ fn put_15_to_17(
     let a = at
         + put_at(
             PREFERRED_ADDRESS,
-            ADDRESS_ID,
+            PREFERRED_ADDRESS_ID,
             src,
             marks,
             kept,
@@ -149,7 +140,7 @@ fn put_15_to_17(
     let b = a
         + put_at(
             ORIGINAL_DST_CID,
-            ORIGINAL_ID,
+            ORIGINAL_DST_CID_ID,
             src,
             marks,
             kept,
@@ -159,7 +150,7 @@ fn put_15_to_17(
     b
         + put_at(
             INITIAL_SRC_CID,
-            INITIAL_ID,
+            INITIAL_SRC_CID_ID,
             src,
             marks,
             kept,
@@ -182,7 +173,7 @@ fn put_18_to_20(
     let a = at
         + put_at(
             RETRY_SRC_CID,
-            RETRY_ID,
+            RETRY_SRC_CID_ID,
             src,
             marks,
             kept,
@@ -192,14 +183,14 @@ fn put_18_to_20(
     let b = a
         + put_value(
             is_marked(marks, GREASE_QUIC_BIT),
-            GREASE_ID,
+            GREASE_QUIC_BIT_ID,
             &[],
             &mut out[a..],
         );
     b
         + put_number(
             is_marked(marks, MIN_ACK_DELAY),
-            ACK_DELAY_ID,
+            MIN_ACK_DELAY_ID,
             kept[MIN_ACK_DELAY],
             &mut out[b..],
         )

@@ -62,9 +62,6 @@ pub reads-none : (times n : ℕ) (s : List ℕ) → length s < n → 0 ≡ reads
 unfolding readsOf
 reads-none times n s h = rw (lt-ltb (length s) n h)
 
-pub lent : (a n : ℕ) (s : List ℕ) → take (a + n - a) (drop a s) ≡ take n (drop a s)
-lent a n s = let e : a + n - a ≡ n = omega arith in rw e
-
 -- WRITING: one call more
 pub once-more : (r : TransportParameters) (i n n′ : ℕ) (out out′ : List ℕ) (w : ℕ × List ℕ)
     → (n, out) ≡ repeat i (again r) w → (n′, out′) ≡ counted (write r out) → (n′, out′) ≡ repeat (i + 1) (again r) w

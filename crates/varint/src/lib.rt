@@ -8,6 +8,7 @@ ghost use Rattle.varint.specs.Answer.{convertOutcome, readOutcome};
 ghost use Rattle.refusal.specs.Answer.{countOutcome};
 use refusal::Counted;
 use refusal::Refusal;
+use words::low;
 use words::wide;
 use words::word2;
 use words::word4;
@@ -133,13 +134,6 @@ fn decode_longer(tag: u8, src: &[u8]) -> Decoded
     }
     let upper = word4(src[3], src[2], src[1], high);
     Decoded::Value((upper << 32) | word4(src[7], src[6], src[5], src[4]), 8)
-}
-
-// The low byte of a number.
-fn low(x: u64) -> u8
-    ensures { λ r. ⌜ r ≡ x % 256 ⌝ }
-{
-    (x % 256) as u8
 }
 
 // Each stores one form of `x`, for which there is room.

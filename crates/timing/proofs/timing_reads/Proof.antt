@@ -10,7 +10,8 @@ use Rattle.refusal.specs.Outcome.{pick}
 use Rattle.rules.specs.declared.Side.the-variants.{Client}
 use Rattle.reader.specs.Reading.{read}
 use Rattle.timing.specs.Timing.{code, repeat, readNext}
-use Rattle.timing.proofs.Answers.{reads-more, reads-all, reads-none, lent}
+use Rattle.timing.proofs.Answers.{reads-more, reads-all, reads-none}
+use Rattle.reader.proofs.Indexed.{lent}
 use borrow.Author.Needs.{needs}
 use Rattle.timing.proofs.timing_reads.Statement.{statement}
 use Rattle.timing.proofs.timing_reads.Tie as tie
