@@ -35,6 +35,7 @@ use catalogue::STATELESS_RESET_TOKEN;
 use marks::is_marked;
 use marks::with_mark;
 use record::TransportParameters;
+use words::low;
 
 // What may be amiss in a line, by its line of the complaints.
 const FINE: usize = 0;
@@ -65,10 +66,6 @@ struct Slip {
 
 fn unless(fine: bool, what: usize) -> usize {
     if fine { FINE } else { what }
-}
-
-fn low(x: u64) -> u8 {
-    (x % 256) as u8
 }
 
 // Stores a number in `n` bytes, high byte first.
