@@ -1,122 +1,149 @@
 // What the commands answer: each is a call of the library, and its result in words.
-use crate::fault;
+use crate::fault::explain;
+use crate::fault::note_culprit;
+use crate::fault::refused;
 use crate::form;
 use crate::input::first;
+use crate::out::Status;
+use crate::out::note;
+use crate::out::put_count;
 use crate::out::say;
-use crate::out::say_count;
 use crate::out::say_hex;
 use crate::out::say_number;
 use crate::show;
-use parameters::Checked;
-use reader::Answer;
+use catalogue::MAX_EXTENSION;
+use image::RECORD_SIZE;
+use libc::STDERR_FILENO;
+use libc::STDOUT_FILENO;
 use record::TransportParameters;
+use refusal::Answer;
 use refusal::Counted;
+use refusal::Refusal;
 use rules::Side;
-use tidy::Tidied;
 use varint::Decoded;
 use varint::VarInt;
-use writer::Written;
 
-pub fn read(side: Side, src: &[u8]) {
+fn show_record(r: TransportParameters) {
+    let mut record = [0u8; RECORD_SIZE];
+    image::image_to(r, &mut record);
+    show::show(&record);
+}
+
+// Reads an extension, and shows it or only tells that it is accepted.
+pub fn read(side: Side, src: &[u8], is_shown: bool) -> Status {
     let reading = reader::read(side, src);
     let answer = reading.answer;
-    let record = reading.parameters;
-    match answer {
-        Answer::Accepted => show::show(record),
-        Answer::Refused(r) => fault::explain(side, r, src),
+    if let Answer::Refused(r) = answer {
+        return explain(side, r, src);
+    }
+    if is_shown {
+        let r = reading.parameters;
+        show_record(r);
+    } else {
+        say(b"accepted\n");
+    }
+    Status::Answered
+}
+
+// Bytes that were stored at the front of `out`.
+fn say_stored(stored: Counted, out: &[u8]) -> Status {
+    match stored {
+        Counted::Count(n) => {
+            say_hex(out, 0, n);
+            say(b"\n");
+            Status::Answered
+        }
+        Counted::Refused(r) => refused(r),
     }
 }
 
-pub fn check(side: Side, src: &[u8]) {
-    let reading = reader::read(side, src);
-    let answer = reading.answer;
-    match answer {
-        Answer::Accepted => say(b"accepted\n"),
-        Answer::Refused(r) => fault::explain(side, r, src),
+// The operations on a record, by its image.
+fn write_image(record: &[u8], out: &mut [u8]) -> Counted {
+    writer::write(image::record_from(record).parameters, out)
+}
+
+fn check_image(side: Side, record: &[u8]) -> Answer {
+    rules::check(image::record_from(record).parameters, side)
+}
+
+// Writes a record in text form.
+pub fn write(text: &[u8]) -> Status {
+    let mut record = [0u8; RECORD_SIZE];
+    if !form::fill(text, &mut record) {
+        return Status::Misused;
     }
+    let mut out = [0u8; MAX_EXTENSION];
+    let stored = write_image(&record, &mut out);
+    say_stored(stored, &out)
 }
 
 // Which rule a record breaks: that which its extension breaks, or that no family that is given is all zero.
-fn say_rule(side: Side, record: TransportParameters) {
-    let mut out = [0u8; 314];
-    let Counted::Count(n) = writer::write(record, &mut out) else {
+fn note_rule(side: Side, record: &[u8]) {
+    let mut out = [0u8; MAX_EXTENSION];
+    let Counted::Count(n) = write_image(record, &mut out) else {
         return;
     };
-    let extension = first(n, &out);
-    let reading = reader::read(side, extension);
-    let answer = reading.answer;
-    match answer {
-        Answer::Accepted => say(b"preferred_address: a family of zeros and port 0\n"),
-        Answer::Refused(r) => fault::say_culprit(side, r, extension),
-    }
+    note_culprit(side, first(n, &out));
 }
 
-// A record in text form.
-pub fn check_record(side: Side, text: &[u8]) {
-    let record = form::record_of(text);
-    match record.check(side) {
-        Checked::Legal => say(b"legal\n"),
-        Checked::Refused(r) => {
-            fault::say_refusal(r);
-            if r.number() == 2 {
-                say_rule(side, record);
+// Checks a record in text form.
+fn check_record(side: Side, text: &[u8]) -> Status {
+    let mut record = [0u8; RECORD_SIZE];
+    if !form::fill(text, &mut record) {
+        return Status::Misused;
+    }
+    let Answer::Refused(r) = check_image(side, &record) else {
+        say(b"legal\n");
+        return Status::Answered;
+    };
+    refused(r);
+    if let Refusal::IllegalValue = r {
+        note_rule(side, &record);
+    }
+    Status::Refused
+}
+
+// Checks an extension, or a record in text form.
+pub fn check(side: Side, bytes: &[u8], is_record: bool) -> Status {
+    if is_record {
+        return check_record(side, bytes);
+    }
+    read(side, bytes, false)
+}
+
+pub fn tidy(side: Side, src: &[u8]) -> Status {
+    let mut out = [0u8; MAX_EXTENSION];
+    let stored = tidy::tidy(side, src, &mut out);
+    match stored {
+        Counted::Refused(r) => explain(side, r, src),
+        Counted::Count(n) => {
+            say_stored(stored, &out);
+            if n <= src.len() {
+                put_count(STDERR_FILENO, src.len() - n);
+                note(b" saved, ");
             }
+            put_count(STDERR_FILENO, n);
+            note(b" left\n");
+            Status::Answered
         }
     }
 }
 
-pub fn write(text: &[u8]) {
-    let record = form::record_of(text);
-    let mut out = [0u8; 314];
-    match writer::write(record, &mut out) {
-        Counted::Count(n) => {
-            say_hex(first(n, &out));
-            say(b"\n");
-        }
-        Counted::Refused(r) => fault::say_refusal(r),
-    }
-}
-
-fn say_saved(before: usize, after: usize) {
-    if after <= before {
-        say_count((before - after) as u64, b"byte");
-        say(b" saved, ");
-    }
-    say_count(after as u64, b"byte");
-    say(b" left\n");
-}
-
-pub fn tidy(side: Side, src: &[u8]) {
-    let mut out = [0u8; 314];
-    match tidy::tidy(side, src, &mut out) {
-        Counted::Count(n) => {
-            say_hex(first(n, &out));
-            say(b"\n");
-            say_saved(src.len(), n);
-        }
-        Counted::Refused(r) => fault::explain(side, r, src),
-    }
-}
-
-pub fn decode(src: &[u8]) {
+pub fn decode(src: &[u8]) -> Status {
     match VarInt::decode(src) {
         Decoded::Value(x, n) => {
             say_number(x);
             say(b" (");
-            say_count(n as u64, b"byte");
+            put_count(STDOUT_FILENO, n);
             say(b")\n");
+            Status::Answered
         }
-        Decoded::Refused(r) => fault::say_refusal(r),
+        Decoded::Refused(r) => refused(r),
     }
 }
 
-pub fn encode(x: u64) {
+pub fn encode(x: u64) -> Status {
     let mut out = [0u8; 8];
-    match VarInt(x).encode(&mut out) {
-        Counted::Count(n) => {
-            say_hex(first(n, &out));
-            say(b"\n");
-        }
-        Counted::Refused(r) => fault::say_refusal(r),
-    }
+    let stored = VarInt(x).encode(&mut out);
+    say_stored(stored, &out)
 }

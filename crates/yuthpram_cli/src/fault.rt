@@ -1,221 +1,210 @@
-// Says what a refusal means and, for an extension, which parameter is at fault and at which byte it starts.
+// Says what a refusal means and, for an extension, which parameter is at fault, at which byte it starts, and why.
 ghost use Prim.Native.Nat.{_≤_};
 ghost use lib.ListN.{length};
-use crate::names;
-use crate::out::say;
-use crate::out::say_identifier;
-use crate::out::say_number;
-use reader::Answer;
+use crate::out::Status;
+use crate::out::note;
+use crate::out::note_line;
+use crate::out::note_number;
+use crate::text::word;
+use catalogue::ACK_DELAY_EXPONENT;
+use catalogue::ACTIVE_CONNECTION_ID_LIMIT;
+use catalogue::DISABLE_ACTIVE_MIGRATION;
+use catalogue::GREASE_QUIC_BIT;
+use catalogue::INITIAL_MAX_STREAMS_BIDI;
+use catalogue::INITIAL_MAX_STREAMS_UNI;
+use catalogue::INITIAL_SRC_CID;
+use catalogue::MAX_ACK_DELAY;
+use catalogue::MAX_UDP_PAYLOAD_SIZE;
+use catalogue::MIN_ACK_DELAY;
+use catalogue::NAMES;
+use catalogue::ORIGINAL_DST_CID;
+use catalogue::PLACES;
+use catalogue::PREFERRED_ADDRESS;
+use catalogue::RETRY_SRC_CID;
+use catalogue::STATELESS_RESET_TOKEN;
+use front::Fault;
+use front::Parameter;
+use index::Scanned;
+use libc::STDERR_FILENO;
+use marks::is_marked;
+use marks::with_mark;
 use refusal::Refusal;
 use rules::Side;
-use varint::Decoded;
-use varint::VarInt;
+use value::Value;
 
-// What is wrong with a parameter.
-enum Why {
-    Nothing,
-    Cut,
-    SecondCopy,
-    Misfit,
-    Illegal,
-    // min_ack_delay is held to max_ack_delay
-    Delay,
-}
-
-struct Fault {
+// The parameter at fault: where it starts, its identifier, and what is wrong.
+struct Culprit {
     at: usize,
     id: u64,
-    why: Why,
+    fault: Fault,
 }
 
-// The parameter at the front of some bytes: its identifier, and how many bytes it takes; 0 if it is cut.
+pub fn refused(r: Refusal) -> Status {
+    let refusals = b"-
+refused 1: malformed
+refused 2: a value that is not allowed
+refused 3: the input ends within the number
+refused 4: the number is 2^62 or more
+refused 5: the output is too short
+refused 6: the order is not a permutation of 0 to 20
+refused 7: the record is not well formed
+refused 8: a remembered limit is reduced
+refused 9: a drawn value is out of range";
+    note_line(refusals, r.number() as usize);
+    Status::Refused
+}
+
+// Whether an extension is refused.
+fn is_broken(side: Side, src: &[u8]) -> bool {
+    let entries = index::index(side, src);
+    let found = entries.found;
+    match found {
+        Scanned::Marks(_) => false,
+        Scanned::Stopped(_) => true,
+    }
+}
+
+// Whether a parameter may be the one that breaks a value rule: it does so by itself, or is min_ack_delay, which is held to max_ack_delay.
+fn is_suspect(side: Side, place: usize, parameter: &[u8]) -> bool {
+    if place == MIN_ACK_DELAY {
+        return true;
+    }
+    is_broken(side, parameter)
+}
+
+// The parameter at a position: its identifier, and where its value starts and ends; it ends at 0 if none is whole.
 struct Front {
     id: u64,
-    size: usize,
+    start: usize,
+    end: usize,
 }
 
-pub fn say_refusal(r: Refusal) {
-    say(b"refused ");
-    say_number(r.number() as u64);
-    match r {
-        Refusal::Malformed => say(b": malformed\n"),
-        Refusal::IllegalValue => say(b": a value that is not allowed\n"),
-        Refusal::UnexpectedEnd => say(b": the input ends within the number\n"),
-        Refusal::VarIntBoundsExceeded => say(b": the number is 2^62 or more\n"),
-        Refusal::BufferTooShort => say(b": the output is too short\n"),
-        Refusal::InvalidOrder => say(b": the order is not a permutation of 0 to 20\n"),
-        Refusal::IllFormed => say(b": the record is not well formed\n"),
-        Refusal::LimitReduced => say(b": a remembered limit is reduced\n"),
-        Refusal::InvalidDraw => say(b": a drawn value is out of range\n"),
-    }
-}
-
-fn cut() -> Front
-    ensures { λ r. ⌜ r .size ≤ 0 ⌝ }
+fn front_at(src: &[u8], at: usize) -> Front
+    requires { ⌜ at ≤ length (now src) ⌝ }
+    ensures { λ r. ⌜ (r .start ≤ r .end) × (r .end ≤ length (now (src .entry))) ⌝ }
 {
-    Front { id: 0, size: 0 }
-}
-
-fn front_of(src: &[u8]) -> Front
-    ensures { λ r. ⌜ r .size ≤ length (now (src .entry)) ⌝ }
-{
-    let Decoded::Value(id, n) = VarInt::decode(src) else {
-        return cut();
+    let Parameter::Whole(id, start, end) = front::parameter_at(src, at) else {
+        return Front {
+            id: 0,
+            start: 0,
+            end: 0,
+        };
     };
-    if src.len() < n {
-        return cut();
-    }
-    let rest = &src[n..];
-    let Decoded::Value(len, m) = VarInt::decode(rest) else {
-        return cut();
-    };
-    if rest.len() < m {
-        return cut();
-    }
-    let left = rest.len() - m;
-    if (left as u64) < len {
-        return cut();
-    }
-    Front {
-        id,
-        size: n + m + (len as usize),
-    }
+    Front { id, start, end }
 }
 
-// What is wrong with a parameter by itself: grease_quic_bit and min_ack_delay may repeat, and the latter is judged at the end.
-fn judge(side: Side, is_met: bool, place: usize, parameter: &[u8]) -> Why {
-    if is_met && place < 19 {
-        return Why::SecondCopy;
-    }
-    let reading = reader::read(side, parameter);
-    let answer = reading.answer;
-    let Answer::Refused(r) = answer else {
-        return Why::Nothing;
-    };
-    if r.number() == 1 {
-        return Why::Misfit;
-    }
-    if place == 20 {
-        Why::Nothing
-    } else {
-        Why::Illegal
-    }
-}
-
-// Whether a fault gives a refusal of this number.
-fn is_cause(number: u8, why: Why) -> bool {
-    match why {
-        Why::SecondCopy | Why::Misfit => number == 1,
-        Why::Illegal => number == 2,
-        _ => false,
-    }
-}
-
-// The first parameter at fault, of an extension that is refused with `number`.
-fn locate(side: Side, number: u8, src: &[u8]) -> Fault {
+// The culprit of an extension that is refused: the first fault from the front, as reading finds it. If there is none, a value rule is broken:
+// by the first parameter that breaks one by itself, or else by the last min_ack_delay.
+fn locate(side: Side, src: &[u8]) -> Culprit {
     let mut met: u32 = 0;
-    let mut delay: usize = 0;
+    let mut is_found = false;
+    let mut rule_at: usize = 0;
+    let mut rule_id: u64 = 0;
     let mut at: usize = 0;
     while at < src.len() {
-        let f = front_of(&src[at..]);
+        let f = front_at(src, at);
         let id = f.id;
-        let size = f.size;
-        if size == 0 {
-            return Fault {
-                at,
-                id,
-                why: Why::Cut,
-            };
+        let start = f.start;
+        let end = f.end;
+        if end <= at {
+            let fault = Fault::Cut;
+            return Culprit { at, id, fault };
         }
         let place = catalogue::place_of(id);
-        let why = judge(
-            side,
-            marks::is_marked(met, place),
-            place,
-            &src[at..at + size],
-        );
-        if is_cause(number, why) {
-            return Fault { at, id, why };
+        if place < PLACES {
+            let v = value::receive(is_marked(met, place), place, start, &src[start..end]);
+            if let Value::Wrong(fault) = v {
+                return Culprit { at, id, fault };
+            }
+            met = with_mark(met, place);
+            if !is_found && is_suspect(side, place, &src[at..end]) {
+                rule_at = at;
+                rule_id = id;
+                is_found = place != MIN_ACK_DELAY;
+            }
         }
-        if place == 20 {
-            delay = at;
-        }
-        met = marks::with_mark(met, place);
-        at += size;
+        at = end;
     }
-    Fault {
-        at: delay,
-        id: parameters::id_at(20),
-        why: Why::Delay,
+    Culprit {
+        at: rule_at,
+        id: rule_id,
+        fault: Fault::Illegal,
     }
 }
 
-// Why a value does not fit its length.
-fn say_misfit(place: usize) {
-    match place {
-        12 => say(b"not 16 bytes\n"),
-        13 | 19 => say(b"not empty\n"),
-        15 => say(b"not as long as it says, or an ID of over 20 bytes\n"),
-        16 | 17 | 18 => say(b"over 20 bytes\n"),
-        _ => say(b"not one number that fills its length\n"),
-    }
-}
-
-// Which rule a value breaks.
-fn say_rule(side: Side, place: usize) {
-    match place {
-        1 => say(b"under 1200\n"),
-        6 | 7 => say(b"over 2^60\n"),
-        8 => say(b"over 20\n"),
-        9 => say(b"16384 or more\n"),
-        10 => say(b"under 2\n"),
-        _ => say_presence(side),
-    }
-}
-
-fn say_presence(side: Side) {
-    match side {
-        Side::Client => say(b"no address, or an empty connection ID\n"),
-        Side::Server => say(b"a client may not send it\n"),
+// What is wrong with a parameter, by its line of the causes: a second copy, a rule that its value breaks, or a value that does not fit its length.
+fn cause(side: Side, fault: Fault, place: usize) -> usize {
+    match fault {
+        Fault::SecondCopy => 0,
+        Fault::Illegal => match place {
+            MAX_UDP_PAYLOAD_SIZE => 6,
+            INITIAL_MAX_STREAMS_BIDI | INITIAL_MAX_STREAMS_UNI => 7,
+            ACK_DELAY_EXPONENT => 8,
+            MAX_ACK_DELAY => 9,
+            ACTIVE_CONNECTION_ID_LIMIT => 10,
+            MIN_ACK_DELAY => 11,
+            _ => match side {
+                Side::Client => 12,
+                Side::Server => 13,
+            },
+        },
+        _ => match place {
+            STATELESS_RESET_TOKEN => 1,
+            DISABLE_ACTIVE_MIGRATION | GREASE_QUIC_BIT => 2,
+            PREFERRED_ADDRESS => 3,
+            ORIGINAL_DST_CID | INITIAL_SRC_CID | RETRY_SRC_CID => 4,
+            _ => 5,
+        },
     }
 }
 
 // Which parameter it is, and what is wrong with it.
-fn say_cause(side: Side, f: Fault) {
-    let why = f.why;
-    let id = f.id;
+fn note_cause(side: Side, c: Culprit) {
+    let fault = c.fault;
+    let id = c.id;
     let place = catalogue::place_of(id);
-    names::say_name(place);
-    say(b" (");
-    say_identifier(id);
-    say(b"): ");
-    match why {
-        Why::SecondCopy => say(b"a second copy\n"),
-        Why::Misfit => say_misfit(place),
-        Why::Illegal => say_rule(side, place),
-        _ => say(b"longer than max_ack_delay\n"),
-    }
-}
-
-fn say_fault(side: Side, f: Fault) {
-    let why = f.why;
-    say(b"at byte ");
-    say_number(f.at as u64);
-    if let Why::Cut = why {
-        say(b": the input ends within this parameter\n");
-        return;
-    }
-    say(b", ");
-    say_cause(side, f);
+    let causes = b"a second copy
+not 16 bytes
+not empty
+not as long as it says, or an ID of over 20 bytes
+over 20 bytes
+not one number that fills its length
+under 1200
+over 2^60
+over 20
+16384 or more
+under 2
+longer than max_ack_delay
+no address, or an empty connection ID
+a client may not send it";
+    note(word(&NAMES, place, b' '));
+    note(b" (0x");
+    io::print_hex(STDERR_FILENO, id, 2);
+    note(b"): ");
+    note_line(causes, cause(side, fault, place));
 }
 
 // A refusal of reading, and its cause.
-pub fn explain(side: Side, r: Refusal, src: &[u8]) {
-    say_refusal(r);
-    say_fault(side, locate(side, r.number(), src));
+pub fn explain(side: Side, r: Refusal, src: &[u8]) -> Status {
+    let c = locate(side, src);
+    let fault = c.fault;
+    refused(r);
+    note(b"at byte ");
+    note_number(c.at as u64);
+    if let Fault::Cut = fault {
+        note(b": the input ends within this parameter\n");
+        return Status::Refused;
+    }
+    note(b", ");
+    note_cause(side, c);
+    Status::Refused
 }
 
-// The cause alone, and not at which byte it stands.
-pub fn say_culprit(side: Side, r: Refusal, src: &[u8]) {
-    say_cause(side, locate(side, r.number(), src));
+// The cause alone, of a record's extension. If the extension is accepted, no value rule is broken: then a family that is given is all zero.
+pub fn note_culprit(side: Side, src: &[u8]) {
+    if is_broken(side, src) {
+        note_cause(side, locate(side, src));
+    } else {
+        note(b"preferred_address: a family of zeros and port 0\n");
+    }
 }

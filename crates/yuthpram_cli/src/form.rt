@@ -1,302 +1,291 @@
-// The text form of a record: a line for each parameter, its name and its value. A record is made of it by looking each name up.
-ghost use Prim.Native.Nat.{_<_, _≤_};
-ghost use lib.ListN.{length};
-use crate::names;
+// The text form of a record: lines of a name and a value. It becomes the image of the record, line by line, or a line is found that is amiss.
+ghost use Prim.Native.Nat.{_<_};
+use crate::out::note;
+use crate::out::note_line;
+use crate::out::note_number;
+use crate::rows::ADDRESS_CID;
+use crate::rows::ADDRESS_FLAG;
+use crate::rows::ADDRESS_TOKEN;
+use crate::rows::ADDRESS_V4;
+use crate::rows::ADDRESS_V6;
+use crate::rows::BLANK;
+use crate::rows::ORDER;
+use crate::rows::ROWS;
+use crate::rows::flag_at;
+use crate::rows::row_of;
+use crate::rows::value_at;
 use crate::text::DecimalText;
 use crate::text::Hex;
 use crate::text::line_at;
 use crate::text::parse_decimal;
 use crate::text::parse_hex;
+use crate::text::position;
+use crate::text::set;
 use crate::text::word;
-use connection_id::ConnectionId;
-use record::OptionalConnectionId;
-use record::OptionalNumber;
-use record::OptionalResetToken;
-use record::PreferredAddress;
-use record::ReservedTransportParameter;
-use record::ResetToken;
-use record::SocketAddrV4;
-use record::SocketAddrV6;
+use catalogue::DISABLE_ACTIVE_MIGRATION;
+use catalogue::GREASE_QUIC_BIT;
+use catalogue::INITIAL_SRC_CID;
+use catalogue::NUMBERS;
+use catalogue::ORIGINAL_DST_CID;
+use catalogue::PLACES;
+use catalogue::PREFERRED_ADDRESS;
+use catalogue::RESERVED;
+use catalogue::RETRY_SRC_CID;
+use catalogue::STATELESS_RESET_TOKEN;
+use marks::is_marked;
+use marks::with_mark;
 use record::TransportParameters;
-use record::WriteOrder;
+use words::low;
 
-// Where the line after that at `at` starts.
-pub fn next_line(text: &[u8], at: usize) -> usize
-    requires { ⌜ at < length (now text) ⌝ }
-    ensures { λ r. ⌜ (at < r) × (r ≤ length (now (text .entry))) ⌝ }
-{
-    let end = bytes::scan::find(text, at, text.len(), b'\n');
-    if end < text.len() {
-        return end + 1;
+// What may be amiss in a line, by its line of the complaints.
+const FINE: usize = 0;
+
+const NAME: usize = 1;
+
+const AGAIN: usize = 2;
+
+const NUMBER: usize = 3;
+
+const DIGITS: usize = 4;
+
+const TOKEN: usize = 5;
+
+const FLAG: usize = 6;
+
+const ADDRESS: usize = 7;
+
+const PLACE: usize = 8;
+
+const MORE: usize = 9;
+
+// What is amiss, and in which line; the lines count from 1.
+struct Slip {
+    line: usize,
+    what: usize,
+}
+
+fn unless(fine: bool, what: usize) -> usize {
+    if fine { FINE } else { what }
+}
+
+// Stores a number in `n` bytes, high byte first.
+fn put_bytes(out: &mut [u8], at: usize, n: usize, x: u64) {
+    let mut rest = x;
+    let mut i = n;
+    while 0 < i {
+        i -= 1;
+        set(out, at, i, low(rest));
+        rest = rest / 256;
     }
-    text.len()
 }
 
-// Where the first line of a name starts; the end if there is none.
-pub fn find_line(text: &[u8], row: usize) -> usize
-    ensures { λ r. ⌜ r ≤ length (now (text .entry)) ⌝ }
-{
-    let mut at: usize = 0;
-    while at < text.len() {
-        if names::is_name(word(line_at(text, at), 0, b' '), row) {
-            return at;
-        }
-        at = next_line(text, at);
-    }
-    at
-}
-
-fn line_of<'a>(text: &'a [u8], row: usize) -> &'a [u8] {
-    let at = find_line(text, row);
-    line_at(text, at)
-}
-
-pub fn is_word(line: &[u8], k: usize, expected: &[u8]) -> bool {
-    check::same(word(line, k, b' '), expected)
-}
-
-// Whether a line gives something: there is one, and it says neither `absent` nor `not set`.
-pub fn is_given(line: &[u8]) -> bool {
-    if line.len() == 0 {
+// A decimal number of at most `most`, in `n` bytes; tells whether it is one.
+fn put_number(digits: &[u8], most: u64, out: &mut [u8], at: usize, n: usize) -> bool {
+    let DecimalText::Number(x) = parse_decimal(digits) else {
+        return false;
+    };
+    if most < x {
         return false;
     }
-    if is_word(line, 1, b"absent") {
-        return false;
-    }
-    !is_word(line, 1, b"not")
+    put_bytes(out, at, n, x);
+    true
 }
 
-// The number that a word is; 0 if it is none.
-fn number_of(digits: &[u8]) -> u64 {
-    match parse_decimal(digits) {
-        DecimalText::Number(x) => x,
-        DecimalText::Strange => 0,
-    }
-}
-
-fn numbers_in(text: &[u8]) -> [u64; 11] {
-    let d = TransportParameters::default();
-    let mut numbers = d.numbers;
-    let mut place: usize = 0;
-    while place < 11 {
-        let line = line_of(text, place);
-        if is_given(line) {
-            numbers[place] = number_of(word(line, 1, b' '));
+// The words `from` to `to`, decimal numbers below 256, a byte for each; tells whether they are there and no word behind them.
+fn put_list(text: &[u8], from: usize, to: usize, sep: u8, out: &mut [u8], at: usize) -> bool {
+    let mut k = from;
+    while k < to {
+        let DecimalText::Number(x) = parse_decimal(word(text, k, sep)) else {
+            return false;
+        };
+        if 255 < x {
+            return false;
         }
-        place += 1;
-    }
-    numbers
-}
-
-fn optional_in(text: &[u8], place: usize) -> OptionalNumber {
-    let line = line_of(text, place);
-    if is_given(line) {
-        OptionalNumber::Present(number_of(word(line, 1, b' ')))
-    } else {
-        OptionalNumber::Absent
-    }
-}
-
-fn flag_in(text: &[u8], place: usize) -> bool {
-    is_given(line_of(text, place))
-}
-
-// How many bytes hexadecimal text holds; one more than there is room for if it holds too many.
-fn size_of(h: Hex, room: u8) -> u8 {
-    match h {
-        Hex::Bytes(n) => { if n < 255 { n as u8 } else { 255 } }
-        Hex::Long => { if room < 255 { room + 1 } else { 255 } }
-        _ => 0,
-    }
-}
-
-// The connection ID that a word holds. One that is too long gets a length that is refused.
-fn id_of(digits: &[u8]) -> ConnectionId {
-    let mut bytes = [0u8; 20];
-    let h = parse_hex(digits, &mut bytes);
-    ConnectionId {
-        len: size_of(h, 20),
-        bytes,
-    }
-}
-
-fn cid_in(text: &[u8], place: usize) -> OptionalConnectionId {
-    let line = line_of(text, place);
-    if !is_given(line) {
-        return OptionalConnectionId {
-            present: false,
-            cid: ConnectionId::empty(),
-        };
-    }
-    let cid = id_of(word(line, 1, b' '));
-    OptionalConnectionId { present: true, cid }
-}
-
-fn token_of(line: &[u8]) -> ResetToken {
-    let mut bytes = [0u8; 16];
-    if is_given(line) {
-        parse_hex(word(line, 1, b' '), &mut bytes);
-    }
-    ResetToken { bytes }
-}
-
-fn token_in(text: &[u8], place: usize) -> OptionalResetToken {
-    let line = line_of(text, place);
-    let token = token_of(line);
-    OptionalResetToken {
-        present: is_given(line),
-        token,
-    }
-}
-
-// The word of a line that is its port: there may be the word `port` before it.
-pub fn port_word<'a>(line: &'a [u8]) -> &'a [u8] {
-    if is_word(line, 2, b"port") {
-        return word(line, 3, b' ');
-    }
-    word(line, 2, b' ')
-}
-
-fn port_of(line: &[u8]) -> u16 {
-    let x = number_of(port_word(line));
-    if x < 65536 { x as u16 } else { 0 }
-}
-
-pub fn small_of(digits: &[u8]) -> u8 {
-    let x = number_of(digits);
-    if x < 256 { x as u8 } else { 0 }
-}
-
-fn part_of(line: &[u8], k: usize) -> u8 {
-    small_of(word(word(line, 1, b' '), k, b'.'))
-}
-
-fn v4_of(line: &[u8]) -> SocketAddrV4 {
-    if !is_given(line) {
-        return SocketAddrV4 {
-            present: false,
-            ip: [0; 4],
-            port: 0,
-        };
-    }
-    SocketAddrV4 {
-        present: true,
-        ip: [
-            part_of(line, 0),
-            part_of(line, 1),
-            part_of(line, 2),
-            part_of(line, 3),
-        ],
-        port: port_of(line),
-    }
-}
-
-fn v6_of(line: &[u8]) -> SocketAddrV6 {
-    let mut ip = [0u8; 16];
-    if !is_given(line) {
-        return SocketAddrV6 {
-            present: false,
-            ip,
-            port: 0,
-        };
-    }
-    parse_hex(word(line, 1, b' '), &mut ip);
-    SocketAddrV6 {
-        present: true,
-        ip,
-        port: port_of(line),
-    }
-}
-
-fn address_id_of(line: &[u8]) -> ConnectionId {
-    if !is_given(line) {
-        return ConnectionId::empty();
-    }
-    id_of(word(line, 1, b' '))
-}
-
-// A preferred address is there if it or a part of it is given.
-fn has_address(text: &[u8]) -> bool {
-    flag_in(text, names::ADDRESS)
-        || flag_in(text, names::ADDRESS_V4)
-        || flag_in(text, names::ADDRESS_V6)
-        || flag_in(text, names::ADDRESS_CID)
-        || flag_in(text, names::ADDRESS_TOKEN)
-}
-
-fn address_in(text: &[u8]) -> PreferredAddress {
-    let address_v4 = v4_of(line_of(text, names::ADDRESS_V4));
-    let address_v6 = v6_of(line_of(text, names::ADDRESS_V6));
-    let connection_id = address_id_of(line_of(text, names::ADDRESS_CID));
-    let stateless_reset_token = token_of(line_of(text, names::ADDRESS_TOKEN));
-    PreferredAddress {
-        present: has_address(text),
-        address_v4,
-        address_v6,
-        connection_id,
-        stateless_reset_token,
-    }
-}
-
-fn reserved_in(text: &[u8]) -> ReservedTransportParameter {
-    let line = line_of(text, names::RESERVED);
-    let mut payload = [0u8; 16];
-    if !is_given(line) {
-        return ReservedTransportParameter {
-            present: false,
-            id: 0,
-            payload,
-            payload_len: 0,
-        };
-    }
-    let h = parse_hex(word(line, 2, b' '), &mut payload);
-    ReservedTransportParameter {
-        present: true,
-        id: number_of(word(line, 1, b' ')),
-        payload,
-        payload_len: size_of(h, 16),
-    }
-}
-
-fn order_in(text: &[u8]) -> WriteOrder {
-    let line = line_of(text, names::ORDER);
-    let mut places = [0u8; 21];
-    let present = is_given(line);
-    if present {
-        put_places(line, &mut places);
-    }
-    WriteOrder { present, places }
-}
-
-fn put_places(line: &[u8], places: &mut [u8; 21]) {
-    let mut k: usize = 0;
-    while k < 21 {
-        places[k] = small_of(word(line, k + 1, b' '));
+        set(out, at, k - from, low(x));
         k += 1;
     }
+    let more = word(text, to, sep);
+    more.len() == 0
 }
 
-pub fn record_of(text: &[u8]) -> TransportParameters {
-    let numbers = numbers_in(text);
-    let stateless_reset_token = token_in(text, 12);
-    let preferred_address = address_in(text);
-    let original_dst_cid = cid_in(text, 16);
-    let initial_src_cid = cid_in(text, 17);
-    let retry_src_cid = cid_in(text, 18);
-    let grease_transport_parameter = reserved_in(text);
-    let write_order = order_in(text);
-    TransportParameters {
-        numbers,
-        disable_active_migration: flag_in(text, 13),
-        max_datagram_frame_size: optional_in(text, 14),
-        initial_src_cid,
-        grease_quic_bit: flag_in(text, 19),
-        min_ack_delay: optional_in(text, 20),
-        original_dst_cid,
-        retry_src_cid,
-        stateless_reset_token,
-        preferred_address,
-        grease_transport_parameter,
-        write_order,
+// Bytes behind their length. Too many get a length that is refused later.
+fn put_counted(digits: &[u8], out: &mut [u8], at: usize, room: u8) -> usize
+    requires { ⌜ at < 70000 ⌝ }
+{
+    if check::same(digits, b"(empty)") {
+        return FINE;
     }
+    match parse_hex(digits, out, at + 1, room as usize) {
+        Hex::Bytes(n) => {
+            set(out, at, 0, low(n as u64));
+            FINE
+        }
+        Hex::Long => {
+            set(out, at, 0, 255);
+            FINE
+        }
+        _ => DIGITS,
+    }
+}
+
+// Exactly 16 bytes; tells whether they are.
+fn put_16(digits: &[u8], out: &mut [u8], at: usize) -> bool {
+    match parse_hex(digits, out, at, 16) {
+        Hex::Bytes(n) => n == 16,
+        _ => false,
+    }
+}
+
+// An identifier, and a payload behind its length.
+fn put_reserved(line: &[u8], out: &mut [u8], at: usize) -> usize
+    requires { ⌜ at < 65536 ⌝ }
+{
+    if !put_number(word(line, 1, b' '), u64::MAX, out, at, 8) {
+        return NUMBER;
+    }
+    put_counted(word(line, 2, b' '), out, at + 8, 16)
+}
+
+// An address of 4 or 16 bytes; tells whether it is one.
+fn put_ip(ip: &[u8], n: usize, out: &mut [u8], at: usize) -> bool {
+    if n == 4 {
+        return put_list(ip, 0, 4, b'.', out, at);
+    }
+    put_16(ip, out, at)
+}
+
+// An address, and a port with or without the word before it.
+fn put_family(line: &[u8], n: usize, out: &mut [u8], at: usize) -> bool
+    requires { ⌜ (at < 65536) × (n < 65536) ⌝ }
+{
+    if !put_ip(word(line, 1, b' '), n, out, at) {
+        return false;
+    }
+    let k = 3 - position(b"port", 1, word(line, 2, b' '));
+    put_number(word(line, k, b' '), 65535, out, at + n, 2)
+}
+
+fn is_flag(value: &[u8]) -> bool {
+    if value.len() == 0 {
+        return true;
+    }
+    position(b"set present", 2, value) < 2
+}
+
+// How many words a line may have: what stands behind a number is ignored.
+fn most_words(row: usize) -> usize {
+    match row {
+        STATELESS_RESET_TOKEN | ADDRESS_TOKEN => 2,
+        ORIGINAL_DST_CID | INITIAL_SRC_CID | RETRY_SRC_CID | ADDRESS_CID => 2,
+        RESERVED => 3,
+        ORDER => PLACES + 1,
+        _ => 4,
+    }
+}
+
+// Stores the value of a line that gives one.
+fn put_value(row: usize, line: &[u8], out: &mut [u8]) -> usize {
+    let at = value_at(row);
+    let value = word(line, 1, b' ');
+    match row {
+        STATELESS_RESET_TOKEN | ADDRESS_TOKEN => unless(put_16(value, out, at), TOKEN),
+        DISABLE_ACTIVE_MIGRATION | PREFERRED_ADDRESS | GREASE_QUIC_BIT => {
+            unless(is_flag(value), FLAG)
+        }
+        ORIGINAL_DST_CID | INITIAL_SRC_CID | RETRY_SRC_CID | ADDRESS_CID => put_counted(
+            value,
+            out,
+            at,
+            20,
+        ),
+        RESERVED => put_reserved(line, out, at),
+        ADDRESS_V4 => unless(put_family(line, 4, out, at), ADDRESS),
+        ADDRESS_V6 => unless(put_family(line, 16, out, at), ADDRESS),
+        ORDER => unless(put_list(line, 1, PLACES + 1, b' ', out, at), PLACE),
+        _ => unless(put_number(value, u64::MAX, out, at, 8), NUMBER),
+    }
+}
+
+// Stores that a row is given; with a part of an address, the address is.
+fn put_flag(row: usize, out: &mut [u8]) {
+    set(out, flag_at(row), 0, 1);
+    if row < PLACES || row == ORDER {
+        return;
+    }
+    set(out, ADDRESS_FLAG, 0, 1);
+}
+
+// Stores what a line says, if its row was not met before. Only what can be absent is let off its value.
+fn put(met: u32, row: usize, line: &[u8], out: &mut [u8]) -> usize {
+    if is_marked(met, row) {
+        return AGAIN;
+    }
+    if ROWS <= row {
+        return unless(row == BLANK, NAME);
+    }
+    if row < NUMBERS {
+        return put_value(row, line, out);
+    }
+    let value = word(line, 1, b' ');
+    if position(b"absent not", 2, value) < 2 {
+        return FINE;
+    }
+    let more = word(line, most_words(row), b' ');
+    if 0 < more.len() {
+        return MORE;
+    }
+    put_flag(row, out);
+    put_value(row, line, out)
+}
+
+// Stores what the lines say into an image, up to the first slip.
+fn put_lines(text: &[u8], out: &mut [u8]) -> Slip {
+    let mut met: u32 = 0;
+    let mut line: usize = 0;
+    let mut at: usize = 0;
+    while at < text.len() {
+        let l = line_at(text, at);
+        let row = row_of(l);
+        let what = put(met, row, l, out);
+        line += 1;
+        if what != FINE {
+            return Slip { line, what };
+        }
+        if text.len() - at <= l.len() {
+            return Slip { line, what };
+        }
+        met = with_mark(met, row);
+        at += l.len() + 1;
+    }
+    Slip { line, what: FINE }
+}
+
+// The image of the record that says nothing.
+fn clear(out: &mut [u8]) {
+    image::image_to(TransportParameters::default(), out);
+}
+
+// The image of the record that a text says; tells whether each line is understood, and complains if not.
+pub fn fill(text: &[u8], out: &mut [u8]) -> bool {
+    clear(out);
+    let slip = put_lines(text, out);
+    let what = slip.what;
+    if what == FINE {
+        return true;
+    }
+    let complaints = b"-
+no such name
+a second line of this name
+not a decimal number
+not hexadecimal
+not 16 bytes in hexadecimal
+a flag has no value, or set
+not an address and a port
+not 21 places
+more than a value";
+    note(b"yuthpram: line ");
+    note_number(slip.line as u64);
+    note(b": ");
+    note_line(complaints, what);
+    false
 }

@@ -1,10 +1,12 @@
 // A command's arguments and its input.
-ghost use Prim.Native.Nat.{_≤_};
+ghost use mathlib.Core.Path.{_≡_};
 ghost use lib.ListN.{length};
-use crate::out::complain;
-use crate::out::complain_number;
+use crate::help;
+use crate::out::note;
+use crate::out::note_number;
 use crate::text::Hex;
 use crate::text::parse_hex;
+use crate::text::position;
 use libc::STDIN_FILENO;
 use rules::Side;
 
@@ -19,21 +21,37 @@ pub enum SideWord {
     Missing,
 }
 
-pub fn is_argument(i: usize, word: &[u8]) -> bool {
+// The limits, in bytes and in characters of hexadecimal text.
+const LIMIT: usize = 65536;
+
+const TEXT_LIMIT: usize = 262144;
+
+// Which of the first `n` words of a list argument `i` is; `n` if none.
+pub fn choice(i: usize, list: &[u8], n: usize) -> usize {
     let mut buffer = [0u8; 32];
-    let n = os::arg(i, &mut buffer);
-    check::same(&buffer[..n], word)
+    let m = os::arg(i, &mut buffer);
+    position(list, n, &buffer[..m])
 }
 
-pub fn side_at(i: usize) -> SideWord {
-    if is_argument(i, b"client") {
+// The side that argument 2 names, if it is to name one.
+pub fn side_for(is_named: bool) -> SideWord {
+    if !is_named {
         return SideWord::Is(Side::Client);
     }
-    if is_argument(i, b"server") {
-        return SideWord::Is(Side::Server);
+    match choice(2, b"client server", 2) {
+        0 => SideWord::Is(Side::Client),
+        1 => SideWord::Is(Side::Server),
+        _ => {
+            note(b"yuthpram: the side that reads is client or server (try --help)\n");
+            SideWord::Missing
+        }
     }
-    complain(b"yuthpram: the side is client or server (try --help)\n");
-    SideWord::Missing
+}
+
+// Whether there are arguments behind argument `i`.
+pub fn is_followed(i: usize) -> bool {
+    let count = os::arg_count();
+    if count == 0 { false } else { i < count - 1 }
 }
 
 // The first `n` of some bytes; all if there are fewer.
@@ -44,86 +62,93 @@ pub fn first<'a>(n: usize, bytes: &'a [u8]) -> &'a [u8] {
     bytes
 }
 
-// Puts the arguments from `i` on at the front of `out`, a space after each. Where they do not fit, all of `out` counts as used.
-fn join(start: usize, out: &mut [u8]) -> usize
-    ensures { λ r. ⌜ r ≤ length (now (out .exit)) ⌝ }
-{
+fn bad(text: &[u8]) -> Input {
+    note(text);
+    Input::Bad
+}
+
+fn too_long() -> Input {
+    bad(
+        b"yuthpram: the input is over the limit of 65536 bytes, or of 262144 characters of hexadecimal\n",
+    )
+}
+
+// Puts the arguments from `start` on at the front of `out`, a space after each.
+fn join(start: usize, out: &mut [u8]) -> Input {
     let count = os::arg_count();
     let mut at: usize = 0;
     let mut i = start;
     while i < count {
         at += os::arg(i, &mut out[at..]);
         if os::errno() != 0 {
-            return out.len();
+            return too_long();
         }
         if out.len() <= at {
-            return out.len();
+            return too_long();
         }
         out[at] = b' ';
         at += 1;
         i += 1;
     }
-    at
+    Input::Bytes(at)
 }
 
-// Whether the input left room; if not, there may be more of it.
-fn judged(n: usize, room: usize) -> Input {
-    if room <= n {
-        complain(b"yuthpram: the input is too long\n");
+// All that can be read from a descriptor.
+fn read_all(fd: i32, out: &mut [u8]) -> Input {
+    let n = io::read_full(fd, out);
+    let mut more = [0u8; 1];
+    let left = libc::read(fd, &mut more);
+    if left < 0 {
+        os::fail(b"yuthpram: the input");
         return Input::Bad;
+    }
+    if 0 < left {
+        return too_long();
     }
     Input::Bytes(n)
 }
 
-// The arguments from `start` on, or what standard input holds if there are none.
-fn text_at(start: usize, out: &mut [u8]) -> usize
-    ensures { λ r. ⌜ r ≤ length (now (out .exit)) ⌝ }
-{
-    if start < os::arg_count() {
-        return join(start, out);
-    }
-    io::read_full(STDIN_FILENO, out)
-}
-
-fn raw(out: &mut [u8]) -> Input {
-    let n = io::read_full(STDIN_FILENO, out);
-    judged(n, out.len())
-}
-
 fn hex_in(text: &[u8], out: &mut [u8]) -> Input {
-    match parse_hex(text, out) {
+    match parse_hex(text, out, 0, LIMIT) {
         Hex::Bytes(n) => Input::Bytes(n),
         Hex::Strange(at) => {
-            complain(b"yuthpram: no hexadecimal digit at character ");
-            complain_number(at as u64);
-            complain(b" (counted from 0)\n");
-            Input::Bad
+            note(b"yuthpram: no hexadecimal digit at character ");
+            note_number(at as u64);
+            bad(b" (counted from 0)\n")
         }
-        Hex::Odd => {
-            complain(b"yuthpram: an odd number of hexadecimal digits\n");
-            Input::Bad
-        }
-        Hex::Long => judged(0, 0),
+        Hex::Odd => bad(b"yuthpram: an odd number of hexadecimal digits\n"),
+        Hex::Long => too_long(),
     }
 }
 
-// The bytes that a command works on: raw from standard input, or in hexadecimal.
-pub fn bytes_at(start: usize, out: &mut [u8]) -> Input {
-    if is_argument(start, b"--raw") {
-        return raw(out);
+// The arguments from `start` on, or what standard input holds if there are none.
+fn text_at(start: usize, out: &mut [u8]) -> Input {
+    if start < os::arg_count() {
+        join(start, out)
+    } else {
+        read_all(STDIN_FILENO, out)
     }
-    let mut text = io::large_buffer();
-    let n = text_at(start, &mut text);
-    let Input::Bytes(m) = judged(n, text.len()) else {
-        return Input::Bad;
-    };
-    hex_in(first(m, &text), out)
 }
 
-// A record in text form, from the file that an argument names or from standard input.
-pub fn form_at(i: usize, out: &mut [u8]) -> Input {
+// The room for hexadecimal text.
+fn text_buffer() -> [u8; TEXT_LIMIT]
+    ensures { λ r. ⌜ 262144 ≡ length r ⌝ }
+{
+    [0; TEXT_LIMIT]
+}
+
+fn hex_at(start: usize, out: &mut [u8]) -> Input {
+    let mut text = text_buffer();
+    match text_at(start, &mut text) {
+        Input::Bad => Input::Bad,
+        Input::Bytes(n) => hex_in(first(n, &text), out),
+    }
+}
+
+// The file that argument `i` names, or standard input.
+fn file_at(i: usize, out: &mut [u8]) -> Input {
     if os::arg_count() <= i {
-        return raw(out);
+        return read_all(STDIN_FILENO, out);
     }
     let mut path = io::buffer();
     let n = os::arg(i, &mut path);
@@ -132,7 +157,23 @@ pub fn form_at(i: usize, out: &mut [u8]) -> Input {
         os::fail(&path[..n]);
         return Input::Bad;
     }
-    let got = io::read_full(fd, out);
+    let got = read_all(fd, out);
     libc::close(fd);
-    judged(got, out.len())
+    got
+}
+
+// What a command works on, by its words from `start` on: a record in text form, raw bytes from standard input, or hexadecimal text.
+pub fn input_at(start: usize, is_form: bool, out: &mut [u8]) -> Input {
+    let is_raw = choice(start, b"--raw", 1) == 0;
+    if !is_form && !is_raw {
+        return hex_at(start, out);
+    }
+    if is_followed(start) {
+        help::note_surplus();
+        return Input::Bad;
+    }
+    if is_form {
+        return file_at(start, out);
+    }
+    read_all(STDIN_FILENO, out)
 }

@@ -4,129 +4,101 @@ mod fault;
 mod form;
 mod help;
 mod input;
-mod lines;
-mod names;
 mod out;
+mod rows;
 mod show;
 mod text;
 
 use input::Input;
 use input::SideWord;
+use input::choice;
 use input::first;
-use out::complain;
-use rules::Side;
+use input::is_followed;
+use out::STATUS_FILENO;
+use out::Status;
 use text::DecimalText;
 
-enum Command {
-    Help,
-    Read,
-    Tidy,
-    Check,
-    Write,
-    Number,
-    Unknown,
+// The commands, by their place in the list of words.
+const READ: usize = 0;
+
+const TIDY: usize = 1;
+
+const CHECK: usize = 2;
+
+const WRITE: usize = 3;
+
+const NUMBER: usize = 4;
+
+fn encode_command() -> Status {
+    if is_followed(3) {
+        return help::note_surplus();
+    }
+    let mut digits = [0u8; 32];
+    let n = os::arg(3, &mut digits);
+    match text::parse_decimal(&digits[..n]) {
+        DecimalText::Number(x) => answers::encode(x),
+        DecimalText::Strange => help::misused(b"yuthpram: not a decimal number\n"),
+    }
 }
 
-fn number_command() {
-    if input::is_argument(2, b"--write") {
-        let mut digits = [0u8; 32];
-        let n = os::arg(3, &mut digits);
-        match text::parse_decimal(&digits[..n]) {
-            DecimalText::Number(x) => answers::encode(x),
-            DecimalText::Strange => complain(b"yuthpram: number --write takes a decimal number\n"),
+// Where the words of a command's input start: behind its side, if it names one, and behind --record.
+fn start_of(command: usize) -> usize {
+    if CHECK < command {
+        return 2;
+    }
+    if command == CHECK {
+        if choice(3, b"--record", 1) == 0 {
+            return 4;
         }
-        return;
     }
+    3
+}
+
+// The commands that take an input.
+fn operate(command: usize) -> Status {
+    let SideWord::Is(side) = input::side_for(command <= CHECK) else {
+        return Status::Misused;
+    };
+    let start = start_of(command);
+    let is_record = start == 4;
     let mut src = io::large_buffer();
-    let Input::Bytes(n) = input::bytes_at(2, &mut src) else {
-        return;
+    let Input::Bytes(n) = input::input_at(start, is_record || command == WRITE, &mut src) else {
+        return Status::Misused;
     };
-    answers::decode(first(n, &src));
-}
-
-fn write_command() {
-    let mut text = io::large_buffer();
-    let Input::Bytes(n) = input::form_at(2, &mut text) else {
-        return;
-    };
-    let form = first(n, &text);
-    if lines::are_sound(form) {
-        answers::write(form);
-    }
-}
-
-fn check_record_command(side: Side) {
-    let mut text = io::large_buffer();
-    let Input::Bytes(n) = input::form_at(4, &mut text) else {
-        return;
-    };
-    let form = first(n, &text);
-    if lines::are_sound(form) {
-        answers::check_record(side, form);
-    }
-}
-
-// The commands on an extension.
-fn extension_command(command: Command) {
-    let SideWord::Is(side) = input::side_at(2) else {
-        return;
-    };
-    let mut src = io::large_buffer();
-    let Input::Bytes(n) = input::bytes_at(3, &mut src) else {
-        return;
-    };
-    let extension = first(n, &src);
+    let bytes = first(n, &src);
     match command {
-        Command::Read => answers::read(side, extension),
-        Command::Tidy => answers::tidy(side, extension),
-        _ => answers::check(side, extension),
+        READ => answers::read(side, bytes, true),
+        TIDY => answers::tidy(side, bytes),
+        CHECK => answers::check(side, bytes, is_record),
+        WRITE => answers::write(bytes),
+        _ => answers::decode(bytes),
     }
 }
 
-fn check_command() {
-    if !input::is_argument(3, b"--record") {
-        extension_command(Command::Check);
-        return;
-    }
-    let SideWord::Is(side) = input::side_at(2) else {
-        return;
-    };
-    check_record_command(side);
-}
-
-fn command_given() -> Command {
+fn run() -> Status {
     if os::arg_count() < 2 {
-        return Command::Help;
+        return help::say_help();
     }
-    if input::is_argument(1, b"--help") || input::is_argument(1, b"-h") {
-        return Command::Help;
+    let command = choice(1, b"read tidy check write number --help -h", 7);
+    if command == NUMBER {
+        if choice(2, b"--write", 1) == 0 {
+            return encode_command();
+        }
     }
-    if input::is_argument(1, b"read") {
-        return Command::Read;
+    if command <= NUMBER {
+        return operate(command);
     }
-    if input::is_argument(1, b"tidy") {
-        return Command::Tidy;
+    if command == 7 {
+        return help::misused(b"yuthpram: no such command\n");
     }
-    if input::is_argument(1, b"check") {
-        return Command::Check;
-    }
-    if input::is_argument(1, b"write") {
-        return Command::Write;
-    }
-    if input::is_argument(1, b"number") {
-        return Command::Number;
-    }
-    Command::Unknown
+    help::say_help()
 }
 
 fn main() {
-    let c = command_given();
-    match c {
-        Command::Help => help::say_help(),
-        Command::Read | Command::Tidy => extension_command(c),
-        Command::Check => check_command(),
-        Command::Write => write_command(),
-        Command::Number => number_command(),
-        Command::Unknown => complain(b"yuthpram: no such command (try --help)\n"),
-    }
+    let status = match run() {
+        Status::Answered => b'0',
+        Status::Refused => b'1',
+        Status::Misused => b'2',
+    };
+    io::write_all(STATUS_FILENO, &[status]);
 }

@@ -1,49 +1,59 @@
-// Printing. What a command answers goes to standard output, what is wrong with how it was called to standard error.
-use crate::text::wide;
+// Printing. What a command answers goes to standard output, everything else to standard error; and how a command ends.
+use crate::text::byte;
+use crate::text::word;
 use libc::STDERR_FILENO;
 use libc::STDOUT_FILENO;
 
+// How a command ends. The wrapper makes its exit status of this.
+pub enum Status {
+    Answered,
+    Refused,
+    // not called as it should be
+    Misused,
+}
+
+// Where the wrapper learns how the program ended, which has no exit status of its own: a digit, with a 3 before it for each write that failed.
+pub const STATUS_FILENO: i32 = 3;
+
 pub fn say(text: &[u8]) {
-    io::write_all(STDOUT_FILENO, text);
+    if !io::write_all(STDOUT_FILENO, text) {
+        io::write_all(STATUS_FILENO, b"3");
+    }
 }
 
 pub fn say_number(n: u64) {
     io::print_decimal(STDOUT_FILENO, n);
 }
 
-// A count and its unit, as `1 byte` and `2 bytes`.
-pub fn say_count(n: u64, unit: &[u8]) {
-    say_number(n);
-    say(b" ");
-    say(unit);
-    if n != 1 {
-        say(b"s");
-    }
-}
-
-pub fn say_hex(bytes: &[u8]) {
+// The `n` bytes from `at` on, in hexadecimal.
+pub fn say_hex(bytes: &[u8], at: usize, n: usize) {
     let mut i: usize = 0;
-    while i < bytes.len() {
-        io::print_hex(STDOUT_FILENO, wide(bytes[i]), 2);
+    while i < n {
+        io::print_hex(STDOUT_FILENO, words::wide(byte(bytes, at, i)), 2);
         i += 1;
     }
 }
 
-// Two bytes as a group of an IPv6 address.
-pub fn say_group(high: u8, low: u8) {
-    io::print_hex(STDOUT_FILENO, wide(high), 2);
-    io::print_hex(STDOUT_FILENO, wide(low), 2);
-}
-
-pub fn say_identifier(id: u64) {
-    say(b"0x");
-    io::print_hex(STDOUT_FILENO, id, 2);
-}
-
-pub fn complain(text: &[u8]) {
+pub fn note(text: &[u8]) {
     io::write_all(STDERR_FILENO, text);
 }
 
-pub fn complain_number(n: u64) {
+// Line `k` of some lines.
+pub fn note_line(lines: &[u8], k: usize) {
+    note(word(lines, k, b'\n'));
+    note(b"\n");
+}
+
+pub fn note_number(n: u64) {
     io::print_decimal(STDERR_FILENO, n);
+}
+
+// A count of bytes, to a descriptor.
+pub fn put_count(fd: i32, n: usize) {
+    io::print_decimal(fd, n as u64);
+    if n == 1 {
+        io::write_all(fd, b" byte");
+    } else {
+        io::write_all(fd, b" bytes");
+    }
 }

@@ -1,202 +1,146 @@
-// Shows a record, a line for each parameter: its name, its value and its unit. The text form of a record has the same lines.
-use crate::names;
+// Shows a record by its image, a line for each parameter: its name, its value and its unit. The text form of a record has the same lines.
+ghost use Prim.Native.Nat.{_<_};
 use crate::out::say;
-use crate::out::say_group;
 use crate::out::say_hex;
 use crate::out::say_number;
-use connection_id::ConnectionId;
-use record::OptionalConnectionId;
-use record::OptionalNumber;
-use record::OptionalResetToken;
-use record::PreferredAddress;
-use record::ResetToken;
-use record::SocketAddrV4;
-use record::SocketAddrV6;
-use record::TransportParameters;
+use crate::rows::ADDRESS_CID;
+use crate::rows::ADDRESS_TOKEN;
+use crate::rows::ADDRESS_V4;
+use crate::rows::ADDRESS_V6;
+use crate::rows::flag_at;
+use crate::rows::say_label;
+use crate::rows::value_at;
+use crate::text::byte;
+use crate::text::word;
+use catalogue::ACK_DELAY_EXPONENT;
+use catalogue::ACTIVE_CONNECTION_ID_LIMIT;
+use catalogue::DEFAULTS;
+use catalogue::DISABLE_ACTIVE_MIGRATION;
+use catalogue::GREASE_QUIC_BIT;
+use catalogue::INITIAL_MAX_STREAMS_BIDI;
+use catalogue::INITIAL_MAX_STREAMS_UNI;
+use catalogue::INITIAL_SRC_CID;
+use catalogue::MAX_ACK_DELAY;
+use catalogue::MAX_IDLE_TIMEOUT;
+use catalogue::MIN_ACK_DELAY;
+use catalogue::NUMBERS;
+use catalogue::ORIGINAL_DST_CID;
+use catalogue::PLACES;
+use catalogue::PREFERRED_ADDRESS;
+use catalogue::RESERVED;
+use catalogue::RETRY_SRC_CID;
+use catalogue::STATELESS_RESET_TOKEN;
+use words::wide;
 
-fn say_unit(place: usize) {
-    match place {
-        0 | 9 => say(b" milliseconds"),
-        20 => say(b" microseconds"),
-        1 | 2 | 3 | 4 | 5 | 14 => say(b" bytes"),
-        6 | 7 => say(b" streams"),
-        10 => say(b" connection IDs"),
-        _ => {}
-    }
-}
-
-fn show_number(place: usize, value: u64, default: u64) {
-    names::say_label(place);
-    say_number(value);
-    say_unit(place);
-    if value == default {
-        say(b" (default)");
-    }
-    say(b"\n");
-}
-
-fn show_numbers(n: &[u64; 11]) {
-    let d = TransportParameters::default();
-    let defaults = d.numbers;
-    let mut place: usize = 0;
-    while place < 11 {
-        show_number(place, n[place], defaults[place]);
-        place += 1;
-    }
-}
-
-fn show_absent(row: usize) {
-    names::say_label(row);
-    say(b"absent\n");
-}
-
-fn show_optional(place: usize, o: OptionalNumber) {
-    match o {
-        OptionalNumber::Absent => show_absent(place),
-        OptionalNumber::Present(x) => {
-            names::say_label(place);
-            say_number(x);
-            say_unit(place);
-            say(b"\n");
-        }
-    }
-}
-
-fn show_flag(place: usize, set: bool) {
-    names::say_label(place);
-    if set {
-        say(b"set\n");
-    } else {
-        say(b"not set\n");
-    }
-}
-
-fn say_first(n: usize, bytes: &[u8]) {
-    if n <= bytes.len() {
-        say_hex(&bytes[0..n]);
-    }
-}
-
-fn show_id(row: usize, c: ConnectionId) {
-    names::say_label(row);
-    let n = c.len as usize;
-    let bytes = c.bytes;
-    if n == 0 {
-        say(b"(empty)\n");
-        return;
-    }
-    say_first(n, &bytes);
-    say(b"\n");
-}
-
-fn show_cid(place: usize, o: OptionalConnectionId) {
-    if !o.present {
-        show_absent(place);
-        return;
-    }
-    let c = o.cid;
-    show_id(place, c);
-}
-
-fn show_bytes(row: usize, t: ResetToken) {
-    let bytes = t.bytes;
-    names::say_label(row);
-    say_hex(&bytes);
-    say(b"\n");
-}
-
-fn show_token(place: usize, o: OptionalResetToken) {
-    if !o.present {
-        show_absent(place);
-        return;
-    }
-    let t = o.token;
-    show_bytes(place, t);
-}
-
-fn say_port(port: u16) {
-    say(b" port ");
-    say_number(port as u64);
-    say(b"\n");
-}
-
-fn say_part(x: u8) {
-    say_number(x as u64);
-}
-
-fn show_v4(a: SocketAddrV4) {
-    if !a.present {
-        show_absent(names::ADDRESS_V4);
-        return;
-    }
-    let ip = a.ip;
-    names::say_label(names::ADDRESS_V4);
-    say_part(ip[0]);
-    say(b".");
-    say_part(ip[1]);
-    say(b".");
-    say_part(ip[2]);
-    say(b".");
-    say_part(ip[3]);
-    say_port(a.port);
-}
-
-fn say_v6(ip: &[u8; 16]) {
+// The number of `n` bytes, high byte first.
+fn number_at(image: &[u8], at: usize, n: usize) -> u64 {
+    let mut x: u64 = 0;
     let mut i: usize = 0;
-    while i < 8 {
-        if 0 < i {
-            say(b":");
-        }
-        say_group(ip[2 * i], ip[2 * i + 1]);
+    while i < n {
+        x = x << 8 | wide(byte(image, at, i));
         i += 1;
     }
+    x
 }
 
-fn show_v6(a: SocketAddrV6) {
-    if !a.present {
-        show_absent(names::ADDRESS_V6);
+// The unit of a number, by its line of the units.
+fn unit(place: usize) -> usize {
+    match place {
+        MAX_IDLE_TIMEOUT | MAX_ACK_DELAY => 0,
+        MIN_ACK_DELAY => 1,
+        INITIAL_MAX_STREAMS_BIDI | INITIAL_MAX_STREAMS_UNI => 2,
+        ACTIVE_CONNECTION_ID_LIMIT => 3,
+        ACK_DELAY_EXPONENT => 5,
+        _ => 4,
+    }
+}
+
+fn say_value(place: usize, value: u64) {
+    let defaults = DEFAULTS;
+    say_number(value);
+    let units = b" milliseconds\n microseconds\n streams\n connection IDs\n bytes";
+    say(word(units, unit(place), b'\n'));
+    if place < NUMBERS {
+        if value == defaults[place] {
+            say(b" (default)");
+        }
+    }
+}
+
+fn say_id(image: &[u8], at: usize)
+    requires { ⌜ at < 65536 ⌝ }
+{
+    let n = byte(image, at, 0);
+    if n == 0 {
+        say(b"(empty)");
         return;
     }
-    let ip = a.ip;
-    names::say_label(names::ADDRESS_V6);
-    say_v6(&ip);
-    say_port(a.port);
+    say_hex(image, at + 1, n as usize);
 }
 
-fn show_address(a: PreferredAddress) {
-    if !a.present {
-        show_absent(names::ADDRESS);
+// An address of 4 or 16 bytes, and its port.
+fn say_family(image: &[u8], at: usize, n: usize)
+    requires { ⌜ (at < 65536) × (n < 65536) ⌝ }
+{
+    let mut i: usize = 0;
+    while i < n {
+        if n == 4 {
+            if 0 < i {
+                say(b".");
+            }
+            say_number(wide(byte(image, at, i)));
+        } else {
+            if 0 < i && i % 2 == 0 {
+                say(b":");
+            }
+            say_hex(image, at + i, 1);
+        }
+        i += 1;
+    }
+    say(b" port ");
+    say_number(number_at(image, at + n, 2));
+}
+
+fn say_present(row: usize, image: &[u8]) {
+    let at = value_at(row);
+    match row {
+        DISABLE_ACTIVE_MIGRATION | GREASE_QUIC_BIT => say(b"set"),
+        PREFERRED_ADDRESS => say(b"present"),
+        STATELESS_RESET_TOKEN | ADDRESS_TOKEN => say_hex(image, at, 16),
+        ORIGINAL_DST_CID | INITIAL_SRC_CID | RETRY_SRC_CID | ADDRESS_CID => say_id(image, at),
+        ADDRESS_V4 => say_family(image, at, 4),
+        ADDRESS_V6 => say_family(image, at, 16),
+        _ => say_value(row, number_at(image, at, 8)),
+    }
+    say(b"\n");
+}
+
+fn show_row(row: usize, image: &[u8]) {
+    say_label(row);
+    if row < NUMBERS || byte(image, flag_at(row), 0) == 1 {
+        say_present(row, image);
         return;
     }
-    let v4 = a.address_v4;
-    let v6 = a.address_v6;
-    let c = a.connection_id;
-    let t = a.stateless_reset_token;
-    names::say_label(names::ADDRESS);
-    say(b"present\n");
-    show_v4(v4);
-    show_v6(v6);
-    show_id(names::ADDRESS_CID, c);
-    show_bytes(names::ADDRESS_TOKEN, t);
+    if row == DISABLE_ACTIVE_MIGRATION || row == GREASE_QUIC_BIT {
+        say(b"not set\n");
+    } else {
+        say(b"absent\n");
+    }
 }
 
-pub fn show(r: TransportParameters) {
-    let numbers = r.numbers;
-    let token = r.stateless_reset_token;
-    let datagram = r.max_datagram_frame_size;
-    let address = r.preferred_address;
-    let original = r.original_dst_cid;
-    let initial = r.initial_src_cid;
-    let retry = r.retry_src_cid;
-    let delay = r.min_ack_delay;
-    show_numbers(&numbers);
-    show_token(12, token);
-    show_flag(13, r.disable_active_migration);
-    show_optional(14, datagram);
-    show_address(address);
-    show_cid(16, original);
-    show_cid(17, initial);
-    show_cid(18, retry);
-    show_flag(19, r.grease_quic_bit);
-    show_optional(20, delay);
+// The places of the catalogue, without the reserved parameter's; the parts of an address behind it, if it is there.
+pub fn show(image: &[u8]) {
+    let mut row: usize = 0;
+    while row < PLACES {
+        if row != RESERVED {
+            show_row(row, image);
+        }
+        if row == PREFERRED_ADDRESS && byte(image, flag_at(row), 0) == 1 {
+            show_row(ADDRESS_V4, image);
+            show_row(ADDRESS_V6, image);
+            show_row(ADDRESS_CID, image);
+            show_row(ADDRESS_TOKEN, image);
+        }
+        row += 1;
+    }
 }

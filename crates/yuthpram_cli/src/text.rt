@@ -1,6 +1,5 @@
-// Text: lines and words, hexadecimal and decimal.
-ghost use mathlib.Core.Path.{_≡_};
-ghost use Prim.Native.Nat.{_≤_};
+// Text: lines and words, hexadecimal and decimal; and single bytes of a buffer.
+ghost use Prim.Native.Nat.{_-_, _≤_};
 ghost use lib.ListN.{length};
 
 // What hexadecimal text holds.
@@ -20,14 +19,32 @@ pub enum DecimalText {
     Strange,
 }
 
-pub fn wide(x: u8) -> u64
-    ensures { λ r. ⌜ r ≡ x ⌝ }
-{
-    x as u64
+// Byte `i` from `at` on; 0 if there is none.
+pub fn byte(bytes: &[u8], at: usize, i: usize) -> u8 {
+    if at < bytes.len() {
+        if i < bytes.len() - at {
+            return bytes[at + i];
+        }
+    }
+    0
 }
 
-// A space, the end of a line, or `sep`.
+// Stores byte `i` from `at` on; tells whether there is room.
+pub fn set(out: &mut [u8], at: usize, i: usize, b: u8) -> bool {
+    if at < out.len() {
+        if i < out.len() - at {
+            out[at + i] = b;
+            return true;
+        }
+    }
+    false
+}
+
+// What parts words: the end of a line alone, or any space and `sep`.
 fn is_gap(b: u8, sep: u8) -> bool {
+    if sep == b'\n' {
+        return b == sep;
+    }
     b == b' ' || b == b'\t' || b == b'\n' || b == b'\r' || b == sep
 }
 
@@ -46,7 +63,7 @@ fn run(text: &[u8], at: usize, sep: u8, gap: bool) -> usize
     i
 }
 
-// Word `k` of the text, counted from 0; empty if there are fewer. Words are parted by gaps.
+// Word `k` of the text, counted from 0; empty if there are fewer. With the end of a line for `sep`, line `k`, of those that are not empty.
 pub fn word<'a>(text: &'a [u8], k: usize, sep: u8) -> &'a [u8] {
     let mut at: usize = 0;
     let mut i: usize = 0;
@@ -60,10 +77,27 @@ pub fn word<'a>(text: &'a [u8], k: usize, sep: u8) -> &'a [u8] {
     &text[from..to]
 }
 
-// The line that starts at `at`, without its end.
-pub fn line_at<'a>(text: &'a [u8], at: usize) -> &'a [u8]
-    requires { ⌜ at ≤ length (now text) ⌝ }
+// Which of the first `n` words of a list a word is; `n` if none.
+pub fn position(list: &[u8], n: usize, w: &[u8]) -> usize
+    ensures { λ r. ⌜ r ≤ n ⌝ }
 {
+    let mut k: usize = 0;
+    while k < n {
+        if check::same(word(list, k, b' '), w) {
+            return k;
+        }
+        k += 1;
+    }
+    k
+}
+
+// The line that starts at `at`, without its end; empty beyond the text.
+pub fn line_at<'a>(text: &'a [u8], at: usize) -> &'a [u8]
+    ensures { λ r. ⌜ length (now r) ≤ length (now (text .entry)) - at ⌝ }
+{
+    if text.len() < at {
+        return &text[0..0];
+    }
     let end = bytes::scan::find(text, at, text.len(), b'\n');
     &text[at..end]
 }
@@ -87,21 +121,20 @@ fn digit(b: u8) -> u8 {
 }
 
 // Stores the digit behind the `digits` before it; tells whether there is room.
-fn put_digit(out: &mut [u8], digits: usize, d: u8) -> bool {
+fn put_digit(out: &mut [u8], at: usize, room: usize, digits: usize, d: u8) -> bool {
     let k = digits / 2;
-    if out.len() <= k {
+    if room <= k {
         return false;
     }
     if digits % 2 == 0 {
-        out[k] = d << 4;
-    } else {
-        out[k] = out[k] | d;
+        return set(out, at, k, d << 4);
     }
-    true
+    let high = byte(out, at, k);
+    set(out, at, k, high | d)
 }
 
-// Puts the bytes that hexadecimal text holds at the front of `out`. Gaps and colons are skipped.
-pub fn parse_hex(text: &[u8], out: &mut [u8]) -> Hex {
+// Puts the bytes that hexadecimal text holds into `out` from `at` on, at most `room` of them. Gaps and colons are skipped.
+pub fn parse_hex(text: &[u8], out: &mut [u8], at: usize, room: usize) -> Hex {
     let mut digits: usize = 0;
     let mut i: usize = 0;
     while i < text.len() {
@@ -110,7 +143,7 @@ pub fn parse_hex(text: &[u8], out: &mut [u8]) -> Hex {
             return Hex::Strange(i);
         }
         if d != GAP {
-            if !put_digit(out, digits, d) {
+            if !put_digit(out, at, room, digits, d) {
                 return Hex::Long;
             }
             digits += 1;
@@ -128,7 +161,7 @@ fn appended(value: u64, digit: u8) -> u64 {
     if 1 << 60 <= value {
         return u64::MAX;
     }
-    10 * value + wide(digit)
+    10 * value + words::wide(digit)
 }
 
 pub fn parse_decimal(text: &[u8]) -> DecimalText {
