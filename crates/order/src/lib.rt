@@ -4,12 +4,7 @@ ghost use Rattle.order.specs.Order.{permutation};
 use catalogue::PLACES;
 use marks::is_marked;
 use marks::with_mark;
-
-fn wide(x: u8) -> usize
-    ensures { λ r. ⌜ r ≡ x ⌝ }
-{
-    x as usize
-}
+use words::size;
 
 // Whether an order is a permutation of the places: the places met are marked, from the last entry on.
 pub fn is_permutation(order: &[u8]) -> bool
@@ -22,7 +17,7 @@ pub fn is_permutation(order: &[u8]) -> bool
     let mut i = PLACES;
     while 0 < i {
         i -= 1;
-        let place = wide(order[i]);
+        let place = size(order[i]);
         if PLACES <= place {
             return false;
         }

@@ -18,18 +18,27 @@ ghost use Rattle.writer.specs.Writing.{parameterAt, concatOf, maxExtensi
 ghost use Rattle.writer.specs.Laid.{laid, addressBytes, partAt, InOrder, Fit, Front, bytesIn, Ready};
 use catalogue::DEFAULTS;
 use catalogue::DISABLE_ACTIVE_MIGRATION;
+use catalogue::DISABLE_ACTIVE_MIGRATION_ID;
 use catalogue::GREASE_QUIC_BIT;
+use catalogue::GREASE_QUIC_BIT_ID;
 use catalogue::IDS;
 use catalogue::INITIAL_SRC_CID;
+use catalogue::INITIAL_SRC_CID_ID;
 use catalogue::MAX_DATAGRAM_FRAME_SIZE;
+use catalogue::MAX_DATAGRAM_FRAME_SIZE_ID;
 use catalogue::MAX_EXTENSION;
 use catalogue::MIN_ACK_DELAY;
+use catalogue::MIN_ACK_DELAY_ID;
 use catalogue::NUMBERS;
 use catalogue::ORIGINAL_DST_CID;
+use catalogue::ORIGINAL_DST_CID_ID;
 use catalogue::PLACES;
 use catalogue::PREFERRED_ADDRESS;
+use catalogue::PREFERRED_ADDRESS_ID;
 use catalogue::RETRY_SRC_CID;
+use catalogue::RETRY_SRC_CID_ID;
 use catalogue::STATELESS_RESET_TOKEN;
+use catalogue::STATELESS_RESET_TOKEN_ID;
 use connection_id::ConnectionId;
 use order::is_permutation;
 use record::OptionalConnectionId;
@@ -46,41 +55,18 @@ use refusal::Refusal;
 use wire::put_bytes;
 use wire::put_number;
 use wire::put_value;
+use words::size;
 
 // So many bytes are copied at once.
 const BLOCK: usize = 16;
 
 // The identifiers of the places that hold no plain number.
-const TOKEN_ID: u64 = IDS[STATELESS_RESET_TOKEN];
-
-const MIGRATION_ID: u64 = IDS[DISABLE_ACTIVE_MIGRATION];
-
-const DATAGRAM_ID: u64 = IDS[MAX_DATAGRAM_FRAME_SIZE];
-
-const ADDRESS_ID: u64 = IDS[PREFERRED_ADDRESS];
-
-const ORIGINAL_ID: u64 = IDS[ORIGINAL_DST_CID];
-
-const INITIAL_ID: u64 = IDS[INITIAL_SRC_CID];
-
-const RETRY_ID: u64 = IDS[RETRY_SRC_CID];
-
-const GREASE_ID: u64 = IDS[GREASE_QUIC_BIT];
-
-const ACK_DELAY_ID: u64 = IDS[MIN_ACK_DELAY];
-
-fn wide(x: u8) -> usize
-    ensures { λ r. ⌜ r ≡ x ⌝ }
-{
-    x as usize
-}
-
 // Each stores a parameter, if it is present, or nothing where there is no room.
 fn put_cid(id: u64, o: OptionalConnectionId, out: &mut [u8]) -> usize
     requires { ⌜ formedOptionalCid o ≡ true ⌝ }
     ensures { λ r. ⌜ (r, now (out .exit)) ≡ put (dueValue (o .present) id (cidBytes (o .cid))) (now (out .entry)) ⌝ }
 {
-    let n = wide(o.cid.len);
+    let n = size(o.cid.len);
     let bytes = o.cid.bytes;
     put_value(o.present, id, &bytes[..n], out)
 }
@@ -90,7 +76,7 @@ fn put_reserved(x: ReservedTransportParameter, out: &mut [u8]) -> usize
     ensures { λ r. ⌜ (r, now (out .exit)) ≡ put (dueValue (x .present) (x .id) (take (x .«payload_len») (x .payload))) (now (out .entry)) ⌝ }
 {
     let payload = x.payload;
-    let n = wide(x.payload_len);
+    let n = size(x.payload_len);
     put_value(x.present, x.id, &payload[..n], out)
 }
 
@@ -101,7 +87,7 @@ fn put_address(a: PreferredAddress, out: &mut [u8]) -> usize
     if !a.present {
         return 0;
     }
-    if out.len() < 43 + wide(a.connection_id.len) {
+    if out.len() < 43 + size(a.connection_id.len) {
         return 0;
     }
     let n = put_address_value(
@@ -111,7 +97,7 @@ fn put_address(a: PreferredAddress, out: &mut [u8]) -> usize
         a.stateless_reset_token,
         &mut out[2..],
     );
-    out[0] = ADDRESS_ID as u8;
+    out[0] = PREFERRED_ADDRESS_ID as u8;
     out[1] = n as u8;
     n + 2
 }
@@ -193,8 +179,8 @@ fn put_11_to_13(
 {
     let bytes = t.token.bytes;
     let a = at + put_reserved(x, &mut out[at..]);
-    let b = a + put_value(t.present, TOKEN_ID, &bytes, &mut out[a..]);
-    let end = b + put_value(migration, MIGRATION_ID, &[], &mut out[b..]);
+    let b = a + put_value(t.present, STATELESS_RESET_TOKEN_ID, &bytes, &mut out[a..]);
+    let end = b + put_value(migration, DISABLE_ACTIVE_MIGRATION_ID, &[], &mut out[b..]);
     starts[STATELESS_RESET_TOKEN] = a;
     starts[DISABLE_ACTIVE_MIGRATION] = b;
     starts[MAX_DATAGRAM_FRAME_SIZE] = end;
@@ -214,9 +200,15 @@ fn put_14_to_16(
         ≡ laid (dueNumber (isPresent d) (idAt 14) (least d) ∷ dueValue (p .present) (idAt 15) (addressBytes p)
         ∷ dueValue (original .present) (idAt 16) (cidBytes (original .cid)) ∷ []) 15 at (now (out .entry)) (now (starts .entry)) ⌝ }
 {
-    let a = at + put_number(d.is_present(), DATAGRAM_ID, d.or_zero(), &mut out[at..]);
+    let a = at
+        + put_number(
+            d.is_present(),
+            MAX_DATAGRAM_FRAME_SIZE_ID,
+            d.or_zero(),
+            &mut out[at..],
+        );
     let b = a + put_address(p, &mut out[a..]);
-    let end = b + put_cid(ORIGINAL_ID, original, &mut out[b..]);
+    let end = b + put_cid(ORIGINAL_DST_CID_ID, original, &mut out[b..]);
     starts[PREFERRED_ADDRESS] = a;
     starts[ORIGINAL_DST_CID] = b;
     starts[INITIAL_SRC_CID] = end;
@@ -237,13 +229,13 @@ fn put_17_to_20(
         ≡ laid (dueValue (initial .present) (idAt 17) (cidBytes (initial .cid)) ∷ dueValue (retry .present) (idAt 18) (cidBytes (retry .cid))
         ∷ dueValue grease (idAt 19) [] ∷ dueNumber (isPresent delay) (idAt 20) (least delay) ∷ []) 18 at (now (out .entry)) (now (starts .entry)) ⌝ }
 {
-    let a = at + put_cid(INITIAL_ID, initial, &mut out[at..]);
-    let b = a + put_cid(RETRY_ID, retry, &mut out[a..]);
-    let e = b + put_value(grease, GREASE_ID, &[], &mut out[b..]);
+    let a = at + put_cid(INITIAL_SRC_CID_ID, initial, &mut out[at..]);
+    let b = a + put_cid(RETRY_SRC_CID_ID, retry, &mut out[a..]);
+    let e = b + put_value(grease, GREASE_QUIC_BIT_ID, &[], &mut out[b..]);
     let end = e
         + put_number(
             delay.is_present(),
-            ACK_DELAY_ID,
+            MIN_ACK_DELAY_ID,
             delay.or_zero(),
             &mut out[e..],
         );
@@ -326,7 +318,7 @@ fn put_ordered(
     let mut at: usize = 0;
     let mut k: usize = 0;
     while k < PLACES {
-        let p = wide(order[k]);
+        let p = size(order[k]);
         let from = starts[p];
         let len = starts[p + 1] - from;
         put_part(from, len, n - at, parts, &mut out[at..]);

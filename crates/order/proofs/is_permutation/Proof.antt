@@ -28,16 +28,16 @@ loop-holds c =
 sub-i : tie.Need-sub-i Inv-loop μ-loop
 sub-i c = omega arith
 
-shared-slice-read-wide : tie.Need-shared-slice-read-wide Inv-loop μ-loop
-shared-slice-read-wide c = omega arith
+shared-slice-read-size : tie.Need-shared-slice-read-size Inv-loop μ-loop
+shared-slice-read-size c = omega arith
 
-wide-requires : tie.Need-wide-requires Inv-loop μ-loop
-wide-requires c κs = tt
+size-requires : tie.Need-size-requires Inv-loop μ-loop
+size-requires c κs = tt
 
 returns-2 : tie.Need-returns-2 Inv-loop μ-loop
 returns-2 c =
     let l = c .before .before .before .before .loop in
-    outside (c .before .before .before .before .before .before .before .args .order .now) (l .i) (omega arith) (omega arith) (rw (c .before .wide .ensures) at (c .if2 .taken))
+    outside (c .before .before .before .before .before .before .before .args .order .now) (l .i) (omega arith) (omega arith) (rw (c .before .size .ensures) at (c .if2 .taken))
 
 is-marked-requires : tie.Need-is-marked-requires Inv-loop μ-loop
 is-marked-requires c κs = tt
@@ -45,7 +45,7 @@ is-marked-requires c κs = tt
 returns-3 : tie.Need-returns-3 Inv-loop μ-loop
 returns-3 c =
     let l = c .before .before .before .before .before .before .loop in
-    twice (c .before .before .before .before .before .before .before .before .before .args .order .now) (l .i) (omega arith) (omega arith) (sym (l .inv .3 (getD (c .before .before .before .before .before .before .before .before .before .args .order .now) (l .i - 1) 0)) ∙ rw (c .before .before .before .wide .ensures) at (sym (c .before .is-marked .ensures) ∙ c .if3 .taken))
+    twice (c .before .before .before .before .before .before .before .before .before .args .order .now) (l .i) (omega arith) (omega arith) (sym (l .inv .3 (getD (c .before .before .before .before .before .before .before .before .before .args .order .now) (l .i - 1) 0)) ∙ rw (c .before .before .before .size .ensures) at (sym (c .before .is-marked .ensures) ∙ c .if3 .taken))
 
 with-mark-requires : tie.Need-with-mark-requires Inv-loop μ-loop
 with-mark-requires c κs = tt
@@ -57,9 +57,9 @@ loop-again : tie.Need-loop-again Inv-loop μ-loop
 loop-again c =
     let l = c .before .before .before .before .before .before .before .loop in
     let os = c .before .before .before .before .before .before .before .before .before .before .args .order .now in
-    let p : getD os (l .i - 1) 0 < 21 = rw (c .before .before .before .before .wide .ensures) at (c .before .before .before .if2 .left) in
-    let m = sym (l .inv .3 (getD os (l .i - 1) 0)) ∙ rw (c .before .before .before .before .wide .ensures) at (sym (c .before .before .is-marked .ensures) ∙ c .before .if3 .left) in
-    let w = rw (c .before .before .before .before .wide .ensures) at (c .with-mark .ensures) in
+    let p : getD os (l .i - 1) 0 < 21 = rw (c .before .before .before .before .size .ensures) at (c .before .before .before .if2 .left) in
+    let m = sym (l .inv .3 (getD os (l .i - 1) 0)) ∙ rw (c .before .before .before .before .size .ensures) at (sym (c .before .before .is-marked .ensures) ∙ c .before .if3 .left) in
+    let w = rw (c .before .before .before .before .size .ensures) at (c .with-mark .ensures) in
     (omega arith, l .inv .1, one-more os (l .i) (omega arith) (omega arith) p m (l .inv .2), rw w (met-more os (l .i) (omega arith) (omega arith) (l .met) p (l .inv .3)))
 
 returns-4 : tie.Need-returns-4 Inv-loop μ-loop
@@ -74,8 +74,8 @@ is-permutation-spec =
     returns
     loop-holds
     sub-i
-    shared-slice-read-wide
-    wide-requires
+    shared-slice-read-size
+    size-requires
     returns-2
     is-marked-requires
     returns-3

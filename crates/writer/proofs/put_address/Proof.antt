@@ -18,11 +18,11 @@ known : (c : tie.Start) → (length (c .args .a .«address_v4» .ip) ≡ 4) × (
 known c = (search needs, search needs, search needs)
 
 -- how long the ID is, and what room there is
-few : (c : tie.After-wide) → c .wide .result ≤ 20
-few c = rw (c .wide .ensures) (cid-facts _ (address-id (c .before .before .before .before .args .a) (c .before .before .before .before .pre)) .within)
+few : (c : tie.After-size) → c .size .result ≤ 20
+few c = rw (c .size .ensures) (cid-facts _ (address-id (c .before .before .before .before .args .a) (c .before .before .before .before .pre)) .within)
 
 enough : (c : tie.Else2) → 43 + c .before .before .before .before .before .args .a .«connection_id» .len ≤ length (c .before .before .before .before .before .args .out .now)
-enough c = rw (c .before .wide .ensures) at (c .if2 .left)
+enough c = rw (c .before .size .ensures) at (c .if2 .left)
 
 small : (c : tie.After-slice-known2) → c .before .before .put-address-value .result ≤ 61
 small c =
@@ -32,8 +32,8 @@ small c =
 returns : tie.Need-returns
 returns c = rw (not-due _ _ _ (not-true _ (c .if1 .taken))) (put-nil _)
 
-wide-requires : tie.Need-wide-requires
-wide-requires c κs = tt
+size-requires : tie.Need-size-requires
+size-requires c κs = tt
 
 add-if2 : tie.Need-add-if2
 add-if2 c = omega (arith, few c)
@@ -44,7 +44,7 @@ returns-2 c =
     let s = c .before .before .before .before .before in
     let a = s .args .a in
     let k = known s in
-    address-none a (s .pre) (not-false _ (c .before .before .if1 .left)) (k .0) (k .1) (k .2) (s .args .out .now) (rw (c .before .wide .ensures) at (c .if2 .taken))
+    address-none a (s .pre) (not-false _ (c .before .before .if1 .left)) (k .0) (k .1) (k .2) (s .args .out .now) (rw (c .before .size .ensures) at (c .if2 .taken))
 
 sub-put-address-value : tie.Need-sub-put-address-value
 sub-put-address-value c = omega arith
@@ -89,7 +89,7 @@ put-address-spec =
     tie.close
     (tie.spec
     returns
-    wide-requires
+    size-requires
     add-if2
     returns-2
     sub-put-address-value

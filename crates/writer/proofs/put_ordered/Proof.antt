@@ -21,13 +21,13 @@ abbrev μ-loop : tie.MeasureT-loop
 μ-loop n order starts parts out₀ at₀ k₀ out at k = places - k
 
 -- the part of this turn
-this : (c : tie.After-wide Inv-loop μ-loop) → Part (c .before .before .before .before .before .before .args .starts .now) (c .before .before .before .before .before .before .args .parts .now) (c .before .before .before .before .before .before .args .n) (c .wide .result) (c .before .before .before .loop .at)
+this : (c : tie.After-size Inv-loop μ-loop) → Part (c .before .before .before .before .before .before .args .starts .now) (c .before .before .before .before .before .before .args .parts .now) (c .before .before .before .before .before .before .args .n) (c .size .result) (c .before .before .before .loop .at)
 this c =
     let s = c .before .before .before .before .before .before in
     let l = c .before .before .before .loop in
-    part-room (s .args .starts .now) (s .args .parts .now) (s .args .order .now) (s .args .n) (l .k) _ (l .at) (s .pre .0) (s .pre .1) (c .before .before .loop-test .taken) (l .inv .1) (c .wide .ensures)
+    part-room (s .args .starts .now) (s .args .parts .now) (s .args .order .now) (s .args .n) (l .k) _ (l .at) (s .pre .0) (s .pre .1) (c .before .before .loop-test .taken) (l .inv .1) (c .size .ensures)
 
-before : (c : tie.After-wide Inv-loop μ-loop) → (c .before .before .before .loop .at ≤ c .before .before .before .before .before .before .args .n) × (c .before .before .before .loop .at ≤ length (c .before .before .before .loop .out))
+before : (c : tie.After-size Inv-loop μ-loop) → (c .before .before .before .loop .at ≤ c .before .before .before .before .before .before .args .n) × (c .before .before .before .loop .at ≤ length (c .before .before .before .loop .out))
 before c =
     let h : c .before .before .before .loop .at ≤ c .before .before .before .before .before .before .args .n = le-trans (le-add-right _ _) (this c .room) in
     (h, rw (c .before .before .before .loop .inv .2 .same) (le-trans h (c .before .before .before .before .before .before .pre .2)))
@@ -38,11 +38,11 @@ room c = omega arith
 loop-holds : tie.Need-loop-holds Inv-loop μ-loop
 loop-holds c = (omega arith, refl, record { bytes = refl; rest = refl; same = refl })
 
-element-copy-out-wide : tie.Need-element-copy-out-wide Inv-loop μ-loop
-element-copy-out-wide c = c .loop-test .taken
+element-copy-out-size : tie.Need-element-copy-out-size Inv-loop μ-loop
+element-copy-out-size c = c .loop-test .taken
 
-wide-requires : tie.Need-wide-requires Inv-loop μ-loop
-wide-requires c κs = tt
+size-requires : tie.Need-size-requires Inv-loop μ-loop
+size-requires c κs = tt
 
 mul-from : tie.Need-mul-from Inv-loop μ-loop
 mul-from c = index _ (this c .place) .fits
@@ -75,7 +75,7 @@ part-put-part-end : tie.Need-part-put-part-end Inv-loop μ-loop
 part-put-part-end c = le-refl _
 
 put-part-requires : tie.Need-put-part-requires Inv-loop μ-loop
-put-part-requires c κs = let a = c .before .before .before .before .before .before .before .before .before .args in let l = c .before .before .before .before .before .before .loop in fit (a .starts .now) (a .parts .now) (l .out) (a .n) (c .before .before .before .wide .result) (l .at) (rw (l .inv .2 .same) (c .before .before .before .before .before .before .before .before .before .pre .2)) (this (c .before .before .before))
+put-part-requires c κs = let a = c .before .before .before .before .before .before .before .before .before .args in let l = c .before .before .before .before .before .before .loop in fit (a .starts .now) (a .parts .now) (l .out) (a .n) (c .before .before .before .size .result) (l .at) (rw (l .inv .2 .same) (c .before .before .before .before .before .before .before .before .before .pre .2)) (this (c .before .before .before))
 
 add-at : tie.Need-add-at Inv-loop μ-loop
 add-at c = fits-room _ _ _ (this (c .before .before .before .before .before .before) .room) (c .before .before .before .before .before .before .before .before .before .before .before .before .pre .2) (room (c .before .before .before .before .before .before .before .before .before .before))
@@ -93,7 +93,7 @@ loop-again c =
     let a = s .args in
     let l = c .before .before .before .before .before .before .before .before .before .loop in
     let t = this (c .before .before .before .before .before .before) in
-    let w = ordered-more (partAt (a .starts .now) (a .parts .now)) (a .order .now) (l .k) (rw (s .pre .0 .long) (c .before .before .before .before .before .before .before .before .loop-test .taken)) (c .before .before .before .before .before .before .wide .result) (l .at) _ (a .n) _ (a .out .now) (l .out) _ (s .pre .2) (l .inv .1) (l .inv .2) (t .room) (c .before .before .before .before .before .before .wide .ensures) refl (part-long _ _ _ _ _ t) (c .before .before .put-part .ensures) in
+    let w = ordered-more (partAt (a .starts .now) (a .parts .now)) (a .order .now) (l .k) (rw (s .pre .0 .long) (c .before .before .before .before .before .before .before .before .loop-test .taken)) (c .before .before .before .before .before .before .size .result) (l .at) _ (a .n) _ (a .out .now) (l .out) _ (s .pre .2) (l .inv .1) (l .inv .2) (t .room) (c .before .before .before .before .before .before .size .ensures) refl (part-long _ _ _ _ _ t) (c .before .before .put-part .ensures) in
     (turn-le _ _ (c .before .before .before .before .before .before .before .before .loop-test .taken), w .0, w .1)
 
 same-length : tie.Need-same-length Inv-loop μ-loop
@@ -114,8 +114,8 @@ put-ordered-spec =
     Inv-loop
     μ-loop
     loop-holds
-    element-copy-out-wide
-    wide-requires
+    element-copy-out-size
+    size-requires
     mul-from
     element-copy-out-from
     add-len
