@@ -200,11 +200,11 @@ fn address_at(src: &[u8], marks: u32, kept: &[u64; PLACES], lens: &[u8; PLACES])
 }
 
 // The record of what was kept.
-fn record_of(
+fn record_of<'a>(
     src: &[u8],
     marks: u32,
-    kept: &[u64; PLACES],
-    lens: &[u8; PLACES],
+    kept: &'a [u64; PLACES],
+    lens: &'a [u8; PLACES],
 ) -> TransportParameters
     requires { ⌜ Sound (now src) (marks, now kept, now lens) ⌝ }
     ensures { λ r. ⌜ r ≡ recordFrom (now (src .entry)) (marks, now (kept .entry), now (lens .entry)) ⌝ }
@@ -240,12 +240,10 @@ pub fn read(side: Side, src: &[u8]) -> Reading
 {
     let entries = index::index(side, src);
     let found = entries.found;
-    let kept = entries.kept;
-    let lens = entries.lens;
     match found {
         Scanned::Stopped(fault) => refuse(fault),
         Scanned::Marks(marks) => {
-            let parameters = record_of(src, marks, &kept, &lens);
+            let parameters = record_of(src, marks, &entries.kept, &entries.lens);
             Reading {
                 answer: Answer::Accepted,
                 parameters,

@@ -214,11 +214,11 @@ fn put_all(
 }
 
 // It goes straight to a buffer that has room for any.
-fn put_tidied(
+fn put_tidied<'a>(
     src: &[u8],
     marks: u32,
-    kept: &[u64; PLACES],
-    lens: &[u8; PLACES],
+    kept: &'a [u64; PLACES],
+    lens: &'a [u8; PLACES],
     out: &mut [u8],
 ) -> Counted
     requires { ⌜ Kept (now src) (now kept) (now lens) × (length (joined (pieces (now src) marks (now kept) (now lens))) ≤ 314) ⌝ }
@@ -242,10 +242,8 @@ pub fn tidy(side: Side, src: &[u8], out: &mut [u8]) -> Counted
 {
     let entries = index::index(side, src);
     let found = entries.found;
-    let kept = entries.kept;
-    let lens = entries.lens;
     match found {
         Scanned::Stopped(fault) => Counted::Refused(fault.refusal()),
-        Scanned::Marks(marks) => put_tidied(src, marks, &kept, &lens, out),
+        Scanned::Marks(marks) => put_tidied(src, marks, &entries.kept, &entries.lens, out),
     }
 }
