@@ -14,7 +14,7 @@ use Rattle.order.specs.Order.{permutation, catalogueOrder}
 use Rattle.order.proofs.Orders.{in-catalogue}
 use Rattle.wire.specs.Wire.{put}
 use Rattle.wire.specs.Stored.{Wrote, each}
-use Rattle.wire.proofs.Stored.{wrote-as, wrote-length, whole-part, stored-whole}
+use Rattle.wire.proofs.Stored.{wrote-length, whole-part, stored-whole}
 use Rattle.wire.proofs.Put.{put-wrote}
 use Rattle.writer.specs.Writing.{parameterAt, concatOf, maxExtension, extension, orderOf, write}
 use Rattle.writer.specs.Laid.{laid, partAt, InOrder, bytesIn, Ready}
@@ -94,12 +94,3 @@ module _ (r : TransportParameters) (out : List ℕ) where
   pub write-stored : wellFormed r ≡ true → permutation (orderOf (r .«write_order»)) ≡ true → store (extension r (orderOf (r .«write_order»))) out ≡ write r out
   unfolding write
   write-stored h q = rw (h, q)
-
--- without an order, straight to a buffer with room for any extension
-pub write-straight : (r : TransportParameters) (n : ℕ) (out m st : List ℕ) → wellFormed r ≡ true → r .«write_order» .present ≡ false → maxExtension ≤ length out
-    → (n, m, st) ≡ laid (each (parameterAt r) places) 1 0 out (replicate (places + 1) 0) → _≡_ {A = Outcome ℕ × List ℕ} (accepted n, m) (write r out)
-write-straight r n out m st w f h e =
-    let q : orderOf (r .«write_order») ≡ catalogueOrder = unfold orderOf in rw f in
-    let p : permutation (orderOf (r .«write_order»)) ≡ true = rw q in-catalogue in
-    let x = wrote-as maxExtension n _ (extension r (orderOf (r .«write_order»))) out m (in-catalogue-order r ∙ ap (extension r) (sym q)) (kept r w n out m st h p e .wrote) in
-    stored-whole maxExtension n _ out m (omega (arith, x .count, x .few)) x ∙ write-stored r out w p

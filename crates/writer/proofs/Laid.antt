@@ -54,6 +54,9 @@ place i h = omega arith
 pub fits-behind : {at n : ℕ} {o m : List ℕ} {l : ℕ} → Behind at n o m → length o ≡ l → l < 2 ^ 64 → Fits w64 (at + n)
 fits-behind {at} {n} {o} {m} h e k = record { fits = omega (arith, h .within, h .same) }
 
+pub fits-most : {a most : ℕ} → a ≤ most → most ≤ 346 → Fits w64 a
+fits-most h k = omega arith
+
 pub fits-room : (a n l : ℕ) → a ≤ n → n ≤ l → l < 2 ^ 64 → Fits w64 a
 fits-room a n l h k i = omega arith
 

@@ -1,29 +1,35 @@
 -- The parts of a record that are handed to the writers, and the value of a preferred address. Assumes nothing.
-use Prim.Native.Nat.{ℕ, _+_, _/_, _%_, _≤_, _<_}
+use Prim.Native.Nat.{ℕ, _+_, _*_, _/_, _%_, _≤_, _<_}
 use mathlib.Core.List.{List, [], _∷_, _++_}
 use mathlib.Core.Path.{_≡_, refl, ap, sym, _∙_}
-use mathlib.Core.Bool.{true}
+use mathlib.Core.Bool.{Bool, true}
 use native.Mathlib.Omega.{arith}
 use native.Mathlib.Nat.{mod-eq-of-lt, div-one}
 use native.Mathlib.Numerals.{add-one}
-use lib.ListN.{length, take, drop, set, length-append}
-use lib.Seq.{length-take-le, take-append-seam, drop-append-add, drop-drop, sets-eq}
-use borrow.Author.Tests.{eqb-true, leb-true}
+use lib.Dec.{ltb}
+use lib.ListN.{length, take, drop, set, length-append, length-take, drop-of-length-le}
+use lib.Seq.{length-take-le, take-all, take-append-seam, drop-append-add, drop-drop, sets-eq}
+use borrow.Author.Tests.{eqb-true, leb-true, ltb-true, le-leb, lt-ltb}
+use Rattle.words.specs.Words.{zeros}
 use Rattle.refusal.specs.Outcome.{Outcome, accepted, refused, front}
 use Rattle.refusal.proofs.Laws.{all-at}
 use Rattle.varint.specs.Number.{bytesOf}
 use Rattle.connection_id.specs.declared.ConnectionId.{ConnectionId}
-use Rattle.connection_id.specs.ConnectionId.{cidWire, formedCid, writeCid}
+use Rattle.connection_id.specs.ConnectionId.{cidBytes, cidWire, formedCid, writeCid}
 use Rattle.connection_id.proofs.Laws.{cid-facts, cid-length}
+use Rattle.catalogue.specs.Catalogue.{ids, idAt}
+use Rattle.catalogue.proofs.Places.{below-at}
 use Rattle.record.specs.declared.OptionalConnectionId.{OptionalConnectionId}
 use Rattle.record.specs.declared.PreferredAddress.{PreferredAddress}
 use Rattle.record.specs.declared.ReservedTransportParameter.{ReservedTransportParameter}
 use Rattle.record.specs.Values.{Family, familyOut}
-use Rattle.record.specs.Record.{formedOptionalCid, formedAddress, formedReserved}
-use Rattle.wire.specs.Wire.{put, dueValue}
+use Rattle.record.specs.Record.{formedOptionalCid, formedFamily, formedToken, formedAddress, formedReserved}
+use Rattle.wire.specs.Wire.{put, dueValue, numberAt}
+use Rattle.laying.specs.Laying.{laidField, Open}
+use Rattle.laying.proofs.Wide.{isField, field-clear, due-few, short-few, short-number-few}
 use Rattle.wire.specs.Stored.{Wrote}
 use Rattle.wire.proofs.Stored.{lent, back, length-front, lent-room, stored-whole, wrote-few, wrote-then}
-use Rattle.wire.proofs.Put.{put-wrote, due-short, short-none, short-whole}
+use Rattle.wire.proofs.Put.{put-wrote, number-size, due-short, short-none, short-whole}
 use Rattle.writer.specs.Laid.{addressBytes}
 
 -- the first n of an array
@@ -41,6 +47,76 @@ payload-room x h = omega (arith, eqb-true (length (x .payload)) 16 (all-at _ h 0
 pub address-id : (a : PreferredAddress) → formedAddress a ≡ true → formedCid (a .«connection_id») ≡ true
 unfolding formedAddress
 address-id a h = all-at _ h 2
+
+-- WHAT IS LAID, AND HOW LONG IT CAN BE
+field-of : (n k : ℕ) (v : List ℕ) → length v ≡ k → 8 ≤ k → k < 64 → n ≤ k → isField n v ≡ true
+field-of n k v e h l m = rw (e, le-leb _ _ h, lt-ltb _ _ l, le-leb _ _ m)
+
+pub cid-laid : (id n : ℕ) (o : OptionalConnectionId) (out : List ℕ) → formedOptionalCid o ≡ true → 32 ≤ length out → zeros out ≡ true → n ≡ o .cid .len
+    → laidField (o .present) id n (o .cid .bytes) out ≡ put (dueValue (o .present) id (cidBytes (o .cid))) out
+unfolding formedOptionalCid
+cid-laid id n o out f h z e =
+    let k = cid-facts (o .cid) (all-at _ f 0) in
+    rw e (field-clear (o .present) id (o .cid .len) (o .cid .bytes) out (field-of (o .cid .len) 20 (o .cid .bytes) (k .long) (omega arith) (omega arith) (k .within)) (omega (arith, k .long)) z (k .after))
+
+pub reserved-laid : (n : ℕ) (x : ReservedTransportParameter) (out : List ℕ) → formedReserved x ≡ true → 32 ≤ length out → zeros out ≡ true → n ≡ x .«payload_len»
+    → laidField (x .present) (x .id) n (x .payload) out ≡ put (dueValue (x .present) (x .id) (take (x .«payload_len») (x .payload))) out
+unfolding formedReserved
+reserved-laid n x out f h z e =
+    let l = eqb-true (length (x .payload)) 16 (all-at _ f 0) in
+    let m = leb-true (x .«payload_len») 16 (all-at _ f 2) in
+    rw e (field-clear (x .present) (x .id) (x .«payload_len») (x .payload) out (field-of (x .«payload_len») 16 (x .payload) l (omega arith) (omega arith) m) (omega arith) z (all-at _ f 3))
+
+pub token-laid : (due : Bool) (id : ℕ) (v out : List ℕ) → length v ≡ 16 → 32 ≤ length out → zeros out ≡ true → laidField due id 16 v out ≡ put (dueValue due id v) out
+token-laid due id v out l h z =
+    let d : drop 16 v ≡ [] = drop-of-length-le v {i = 16} (omega arith) in
+    let t : take 16 v ≡ v = take-all 16 v (omega arith) in
+    field-clear due id 16 v out (field-of 16 16 v l (omega arith) (omega arith) (omega arith)) (omega arith) z (rw d refl) ∙ rw t
+
+pub reserved-few : (x : ReservedTransportParameter) → formedReserved x ≡ true → length (dueValue (x .present) (x .id) (take (x .«payload_len») (x .payload))) ≤ 25
+unfolding formedReserved
+reserved-few x f =
+    let m = leb-true (x .«payload_len») 16 (all-at _ f 2) in
+    let l = length-take (x .«payload_len») (x .payload) in
+    omega (arith, due-few (x .present) (x .id) (take (x .«payload_len») (x .payload)) (omega arith), number-size (x .id))
+
+pub token-few : (due : Bool) (v : List ℕ) → length v ≡ 16 → length (dueValue due 2 v) ≤ 18
+token-few due v l = omega (arith, short-few due 2 v (omega arith) (omega arith))
+
+pub cid-few : (id : ℕ) (o : OptionalConnectionId) → id < 64 → formedOptionalCid o ≡ true → length (dueValue (o .present) id (cidBytes (o .cid))) ≤ 22
+unfolding formedOptionalCid
+cid-few id o h f =
+    let k = cid-facts (o .cid) (all-at _ f 0) in
+    let l = cid-length (o .cid) k in
+    omega (arith, short-few (o .present) id (cidBytes (o .cid)) h (omega (arith, k .within)), k .within)
+
+pub flag-few : (due : Bool) (id : ℕ) → length (dueValue due id []) ≤ 9
+flag-few due id = omega (arith, due-few due id [] (omega arith), number-size id)
+
+pub short-flag-few : (due : Bool) (id : ℕ) → id < 64 → length (dueValue due id []) ≤ 2
+short-flag-few due id h = omega (arith, short-few due id [] h (omega arith))
+
+pub address-few : (a : PreferredAddress) → formedAddress a ≡ true → length (dueValue (a .present) 13 (addressBytes a)) ≤ 63
+unfolding formedAddress formedFamily formedToken familyOut
+address-few a f =
+    let k = cid-facts (a .«connection_id») (all-at _ f 2) in
+    let l₄ = eqb-true (length (a .«address_v4» .ip)) 4 (all-at _ (all-at _ f 0) 0) in
+    let l₆ = eqb-true (length (a .«address_v6» .ip)) 16 (all-at _ (all-at _ f 1) 0) in
+    let t = eqb-true (length (a .«stateless_reset_token» .bytes)) 16 (all-at _ f 3) in
+    let l : length (addressBytes a) ≡ 41 + a .«connection_id» .len = simp length-append (omega (arith, cid-length (a .«connection_id») k)) in
+    omega (arith, short-few (a .present) 13 (addressBytes a) (omega arith) (omega (arith, k .within)), k .within)
+
+-- the identifiers of places 0 to 10 are one byte
+low-id : (p : ℕ) → p < 11 → idAt p < 64
+unfolding idAt ids
+low-id p h = ltb-true _ _ (below-at 11 (λ p. ltb (idAt p) 64) refl p h)
+
+pub number-at-few : (ns : List ℕ) (p : ℕ) → p < 11 → length (numberAt ns p) ≤ 10
+unfolding numberAt
+number-at-few ns p h = short-number-few _ (idAt p) _ (low-id p h)
+
+pub open-turn : {at : ℕ} {out : List ℕ} (i : ℕ) → Open (10 * i + 10) at out → Open (10 * (i + 1)) at out
+open-turn {at} {out} i o = let e : 10 * i + 10 ≡ 10 * (i + 1) = omega arith in rw e at o
 
 -- A PREFERRED ADDRESS
 pub family-stored : (n x : ℕ) (ip out m : List ℕ) → length ip + 2 ≤ length out → x < 65536 → (n, m) ≡ put ip out

@@ -22,7 +22,7 @@ use Rattle.record.specs.declared.ReservedTransportParameter.{ReservedTransportP
 use Rattle.catalogue.specs.Catalogue.{Kind, number, flag, cid, token, address, reserved, places, idAt, kindAt, defaults, widest, parameter, parameterIf}
 use Rattle.catalogue.proofs.Places.{id-lt}
 use Rattle.record.specs.Values.{numberOut, optionalOut, flagOut, cidOut, tokenOut, addressOut, otherValues, valuesOf}
-use Rattle.record.specs.Record.{isPresent, least, formedOptional, formedOptionalCid, formedAddress, formedReserved, formedOrder, wellFormed}
+use Rattle.record.specs.Record.{isPresent, least, formedOptional, formedOptionalCid, formedToken, formedOptionalToken, formedAddress, formedReserved, formedOrder, wellFormed}
 use Rattle.record.proofs.KindLaws.{IfSome, Sound}
 use Rattle.record.proofs.Records.{Families, number-lt, sound}
 use Rattle.wire.specs.Wire.{dueValue, dueNumber, numberAt}
@@ -37,6 +37,7 @@ use Rattle.writer.proofs.Laid.{laid-then}
 pub record Formed (r : TransportParameters) : Type 0 where
   pub numbers : length (r .numbers) ≡ 11
   pub reserved : formedReserved (r .«grease_transport_parameter») ≡ true
+  pub token : length (r .«stateless_reset_token» .token .bytes) ≡ 16
   pub address : formedAddress (r .«preferred_address») ≡ true
   pub original : formedOptionalCid (r .«original_dst_cid») ≡ true
   pub initial : formedOptionalCid (r .«initial_src_cid») ≡ true
@@ -44,11 +45,12 @@ pub record Formed (r : TransportParameters) : Type 0 where
   pub order : length (r .«write_order» .places) ≡ places
 
 pub formed : (r : TransportParameters) → wellFormed r ≡ true → Formed r
-unfolding wellFormed formedOrder
+unfolding wellFormed formedOrder formedOptionalToken formedToken
 formed r w =
     record {
       numbers = eqb-true _ _ (all-at _ w 0);
       reserved = all-at _ w 2;
+      token = eqb-true _ _ (all-at _ (all-at _ w 3) 0);
       address = all-at _ w 5;
       original = all-at _ w 6;
       initial = all-at _ w 7;

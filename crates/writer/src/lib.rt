@@ -1,11 +1,12 @@
 // Writing an extension: `TransportParameters::write` of quinn's transport_parameters.rs.
 ghost use mathlib.Core.Path.{_≡_};
 ghost use mathlib.Core.List.{[], _∷_, _++_};
-ghost use mathlib.Core.Bool.{true, false};
+ghost use mathlib.Core.Bool.{true};
 ghost use Prim.Native.Nat.{_+_, _<_, _≤_};
 ghost use lib.ListN.{length, take, drop};
 ghost use Rattle.refusal.specs.Outcome.{pick, front, store};
 ghost use Rattle.refusal.specs.Answer.{countOutcome};
+ghost use Rattle.words.specs.Words.{zeros};
 ghost use Rattle.varint.specs.Number.{bytesOf};
 ghost use Rattle.connection_id.specs.ConnectionId.{cidBytes, formedCid};
 ghost use Rattle.catalogue.specs.Catalogue.{places, idAt};
@@ -14,7 +15,8 @@ ghost use Rattle.record.specs.Record.{isPresent, least, formedOptionalCid, form
 ghost use Rattle.order.specs.Order.{permutation, catalogueOrder};
 ghost use Rattle.wire.specs.Wire.{put, dueValue, dueNumber, numberAt};
 ghost use Rattle.wire.specs.Stored.{Wrote, each};
-ghost use Rattle.writer.specs.Writing.{parameterAt, concatOf, maxExtension, write};
+ghost use Rattle.laying.specs.Laying.{Open};
+ghost use Rattle.writer.specs.Writing.{parameterAt, concatOf, write};
 ghost use Rattle.writer.specs.Laid.{laid, addressBytes, partAt, InOrder, Fit, Front, bytesIn, Ready};
 use catalogue::DEFAULTS;
 use catalogue::DISABLE_ACTIVE_MIGRATION;
@@ -40,6 +42,8 @@ use catalogue::RETRY_SRC_CID_ID;
 use catalogue::STATELESS_RESET_TOKEN;
 use catalogue::STATELESS_RESET_TOKEN_ID;
 use connection_id::ConnectionId;
+use laying::lay_field;
+use laying::lay_number;
 use order::is_permutation;
 use record::OptionalConnectionId;
 use record::OptionalNumber;
@@ -53,31 +57,54 @@ use record::TransportParameters;
 use refusal::Counted;
 use refusal::Refusal;
 use wire::put_bytes;
-use wire::put_number;
 use wire::put_value;
 use words::size;
 
 // So many bytes are copied at once.
 const BLOCK: usize = 16;
 
-// The identifiers of the places that hold no plain number.
-// Each stores a parameter, if it is present, or nothing where there is no room.
+// Room for any extension, and for what writers and copies store behind it.
+const SCRATCH: usize = MAX_EXTENSION + 32;
+
+// Each stores a parameter, if it is present, or nothing where there is no room. The buffer is all zeros, so that a writer may store zeros behind
+// its parameter: fields are stored whole, and numbers without a branch on their width.
 fn put_cid(id: u64, o: OptionalConnectionId, out: &mut [u8]) -> usize
-    requires { ⌜ formedOptionalCid o ≡ true ⌝ }
+    requires { ⌜ (formedOptionalCid o ≡ true) × (32 ≤ length (now out)) × (zeros (now out) ≡ true) ⌝ }
     ensures { λ r. ⌜ (r, now (out .exit)) ≡ put (dueValue (o .present) id (cidBytes (o .cid))) (now (out .entry)) ⌝ }
 {
     let n = size(o.cid.len);
     let bytes = o.cid.bytes;
-    put_value(o.present, id, &bytes[..n], out)
+    lay_field(o.present, id, n, &bytes, out)
 }
 
 fn put_reserved(x: ReservedTransportParameter, out: &mut [u8]) -> usize
-    requires { ⌜ formedReserved x ≡ true ⌝ }
+    requires { ⌜ (formedReserved x ≡ true) × (32 ≤ length (now out)) × (zeros (now out) ≡ true) ⌝ }
     ensures { λ r. ⌜ (r, now (out .exit)) ≡ put (dueValue (x .present) (x .id) (take (x .«payload_len») (x .payload))) (now (out .entry)) ⌝ }
 {
     let payload = x.payload;
     let n = size(x.payload_len);
-    put_value(x.present, x.id, &payload[..n], out)
+    lay_field(x.present, x.id, n, &payload, out)
+}
+
+fn put_token(t: OptionalResetToken, out: &mut [u8]) -> usize
+    requires { ⌜ (length (t .token .bytes) ≡ 16) × (32 ≤ length (now out)) × (zeros (now out) ≡ true) ⌝ }
+    ensures { λ r. ⌜ (r, now (out .exit)) ≡ put (dueValue (t .present) (idAt 12) (t .token .bytes)) (now (out .entry)) ⌝ }
+{
+    let bytes = t.token.bytes;
+    lay_field(
+        t.present,
+        STATELESS_RESET_TOKEN_ID,
+        ResetToken::SIZE,
+        &bytes,
+        out,
+    )
+}
+
+fn put_optional(id: u64, o: OptionalNumber, out: &mut [u8]) -> usize
+    requires { ⌜ (32 ≤ length (now out)) × (zeros (now out) ≡ true) ⌝ }
+    ensures { λ r. ⌜ (r, now (out .exit)) ≡ put (dueNumber (isPresent o) id (least o)) (now (out .entry)) ⌝ }
+{
+    lay_number(o.is_present(), id, o.or_zero(), out)
 }
 
 fn put_address(a: PreferredAddress, out: &mut [u8]) -> usize
@@ -143,16 +170,17 @@ fn put_cid_and_token(cid: ConnectionId, token: ResetToken, out: &mut [u8]) -> us
 
 // Each lays the parameters due at some places behind the first `at` bytes, and notes where the places after them start.
 fn put_numbers(numbers: &[u64; NUMBERS], starts: &mut [usize; PLACES + 1], out: &mut [u8]) -> usize
-    requires { ⌜ (length (now numbers) ≡ 11) × (length (now starts) ≡ places + 1) ⌝ }
-    ensures { λ r. ⌜ (r, now (out .exit), now (starts .exit))
-        ≡ laid (each (numberAt (now (numbers .entry))) 11) 1 0 (now (out .entry)) (now (starts .entry)) ⌝ }
+    requires { ⌜ (length (now numbers) ≡ 11) × (length (now starts) ≡ places + 1) × Open 0 0 (now out) ⌝ }
+    ensures { λ r. ⌜ ((r, now (out .exit), now (starts .exit))
+        ≡ laid (each (numberAt (now (numbers .entry))) 11) 1 0 (now (out .entry)) (now (starts .entry)))
+        × Open 110 r (now (out .exit)) ⌝ }
 {
     let ids = IDS;
     let defaults = DEFAULTS;
     let mut at: usize = 0;
     let mut i: usize = 0;
     while i < NUMBERS {
-        at += put_number(
+        at += lay_number(
             numbers[i] != defaults[i],
             ids[i],
             numbers[i],
@@ -172,14 +200,14 @@ fn put_11_to_13(
     starts: &mut [usize; PLACES + 1],
     out: &mut [u8],
 ) -> usize
-    requires { ⌜ (formedReserved x ≡ true) × (at ≤ length (now out)) × (length (now starts) ≡ places + 1) ⌝ }
-    ensures { λ r. ⌜ (r, now (out .exit), now (starts .exit))
+    requires { ⌜ (formedReserved x ≡ true) × (length (t .token .bytes) ≡ 16) × (length (now starts) ≡ places + 1) × Open 110 at (now out) ⌝ }
+    ensures { λ r. ⌜ ((r, now (out .exit), now (starts .exit))
         ≡ laid (dueValue (x .present) (x .id) (take (x .«payload_len») (x .payload)) ∷ dueValue (t .present) (idAt 12) (t .token .bytes)
-        ∷ dueValue migration (idAt 13) [] ∷ []) 12 at (now (out .entry)) (now (starts .entry)) ⌝ }
+        ∷ dueValue migration (idAt 13) [] ∷ []) 12 at (now (out .entry)) (now (starts .entry)))
+        × Open 155 r (now (out .exit)) ⌝ }
 {
-    let bytes = t.token.bytes;
     let a = at + put_reserved(x, &mut out[at..]);
-    let b = a + put_value(t.present, STATELESS_RESET_TOKEN_ID, &bytes, &mut out[a..]);
+    let b = a + put_token(t, &mut out[a..]);
     let end = b + put_value(migration, DISABLE_ACTIVE_MIGRATION_ID, &[], &mut out[b..]);
     starts[STATELESS_RESET_TOKEN] = a;
     starts[DISABLE_ACTIVE_MIGRATION] = b;
@@ -195,18 +223,13 @@ fn put_14_to_16(
     starts: &mut [usize; PLACES + 1],
     out: &mut [u8],
 ) -> usize
-    requires { ⌜ (formedAddress p ≡ true) × (formedOptionalCid original ≡ true) × (at ≤ length (now out)) × (length (now starts) ≡ places + 1) ⌝ }
-    ensures { λ r. ⌜ (r, now (out .exit), now (starts .exit))
+    requires { ⌜ (formedAddress p ≡ true) × (formedOptionalCid original ≡ true) × (length (now starts) ≡ places + 1) × Open 155 at (now out) ⌝ }
+    ensures { λ r. ⌜ ((r, now (out .exit), now (starts .exit))
         ≡ laid (dueNumber (isPresent d) (idAt 14) (least d) ∷ dueValue (p .present) (idAt 15) (addressBytes p)
-        ∷ dueValue (original .present) (idAt 16) (cidBytes (original .cid)) ∷ []) 15 at (now (out .entry)) (now (starts .entry)) ⌝ }
+        ∷ dueValue (original .present) (idAt 16) (cidBytes (original .cid)) ∷ []) 15 at (now (out .entry)) (now (starts .entry)))
+        × Open 250 r (now (out .exit)) ⌝ }
 {
-    let a = at
-        + put_number(
-            d.is_present(),
-            MAX_DATAGRAM_FRAME_SIZE_ID,
-            d.or_zero(),
-            &mut out[at..],
-        );
+    let a = at + put_optional(MAX_DATAGRAM_FRAME_SIZE_ID, d, &mut out[at..]);
     let b = a + put_address(p, &mut out[a..]);
     let end = b + put_cid(ORIGINAL_DST_CID_ID, original, &mut out[b..]);
     starts[PREFERRED_ADDRESS] = a;
@@ -224,21 +247,16 @@ fn put_17_to_20(
     starts: &mut [usize; PLACES + 1],
     out: &mut [u8],
 ) -> usize
-    requires { ⌜ (formedOptionalCid initial ≡ true) × (formedOptionalCid retry ≡ true) × (at ≤ length (now out)) × (length (now starts) ≡ places + 1) ⌝ }
-    ensures { λ r. ⌜ (r, now (out .exit), now (starts .exit))
+    requires { ⌜ (formedOptionalCid initial ≡ true) × (formedOptionalCid retry ≡ true) × (length (now starts) ≡ places + 1) × Open 250 at (now out) ⌝ }
+    ensures { λ r. ⌜ ((r, now (out .exit), now (starts .exit))
         ≡ laid (dueValue (initial .present) (idAt 17) (cidBytes (initial .cid)) ∷ dueValue (retry .present) (idAt 18) (cidBytes (retry .cid))
-        ∷ dueValue grease (idAt 19) [] ∷ dueNumber (isPresent delay) (idAt 20) (least delay) ∷ []) 18 at (now (out .entry)) (now (starts .entry)) ⌝ }
+        ∷ dueValue grease (idAt 19) [] ∷ dueNumber (isPresent delay) (idAt 20) (least delay) ∷ []) 18 at (now (out .entry)) (now (starts .entry)))
+        × Open 320 r (now (out .exit)) ⌝ }
 {
     let a = at + put_cid(INITIAL_SRC_CID_ID, initial, &mut out[at..]);
     let b = a + put_cid(RETRY_SRC_CID_ID, retry, &mut out[a..]);
     let e = b + put_value(grease, GREASE_QUIC_BIT_ID, &[], &mut out[b..]);
-    let end = e
-        + put_number(
-            delay.is_present(),
-            MIN_ACK_DELAY_ID,
-            delay.or_zero(),
-            &mut out[e..],
-        );
+    let end = e + put_optional(MIN_ACK_DELAY_ID, delay, &mut out[e..]);
     starts[RETRY_SRC_CID] = a;
     starts[GREASE_QUIC_BIT] = b;
     starts[MIN_ACK_DELAY] = e;
@@ -248,7 +266,7 @@ fn put_17_to_20(
 
 // Lays the parameters due in catalogue order, and notes where each place but the first starts.
 fn put_catalogue(r: TransportParameters, starts: &mut [usize; PLACES + 1], out: &mut [u8]) -> usize
-    requires { ⌜ (wellFormed r ≡ true) × (length (now starts) ≡ places + 1) ⌝ }
+    requires { ⌜ (wellFormed r ≡ true) × (length (now starts) ≡ places + 1) × Open 0 0 (now out) ⌝ }
     ensures { λ n. ⌜ (n, now (out .exit), now (starts .exit))
         ≡ laid (each (parameterAt r) places) 1 0 (now (out .entry)) (now (starts .entry)) ⌝ }
 {
@@ -361,20 +379,9 @@ fn is_order(present: bool, order: &[u8; PLACES]) -> bool
     is_permutation(order)
 }
 
-// A record without an order goes straight to `out`, which has room for any extension.
-fn write_straight(r: TransportParameters, out: &mut [u8]) -> Counted
-    requires { ⌜ (r .«write_order» .present ≡ false) × (maxExtension ≤ length (now out)) ⌝ }
-    ensures { λ w. ⌜ (countOutcome w, now (out .exit)) ≡ write r (now (out .entry)) ⌝ }
-{
-    if r.is_well_formed() {
-        let mut starts = [0usize; PLACES + 1];
-        return Counted::Count(put_catalogue(r, &mut starts, out));
-    }
-    Counted::Refused(Refusal::IllFormed)
-}
-
-// Any other is laid in an array first, so that the count is known before a byte of `out` is touched.
-fn write_parts(r: TransportParameters, out: &mut [u8]) -> Counted
+// Writes the record to the front of `out`, in its order. It is laid in an array first, so that the count is known before a byte of `out` is
+// touched.
+pub fn write(r: TransportParameters, out: &mut [u8]) -> Counted
     ensures { λ w. ⌜ (countOutcome w, now (out .exit)) ≡ write r (now (out .entry)) ⌝ }
 {
     if !r.is_well_formed() {
@@ -385,19 +392,7 @@ fn write_parts(r: TransportParameters, out: &mut [u8]) -> Counted
         return Counted::Refused(Refusal::InvalidOrder);
     }
     let mut starts = [0usize; PLACES + 1];
-    let mut parts = [0u8; MAX_EXTENSION + BLOCK];
+    let mut parts = [0u8; SCRATCH];
     let n = put_catalogue(r, &mut starts, &mut parts);
     put_laid(n, r.write_order.present, &places, &starts, &parts, out)
-}
-
-// Writes the record to the front of `out`, in its order.
-pub fn write(r: TransportParameters, out: &mut [u8]) -> Counted
-    ensures { λ w. ⌜ (countOutcome w, now (out .exit)) ≡ write r (now (out .entry)) ⌝ }
-{
-    if !r.write_order.present {
-        if MAX_EXTENSION <= out.len() {
-            return write_straight(r, out);
-        }
-    }
-    write_parts(r, out)
 }
