@@ -1,4 +1,4 @@
-// Text: lines and words, hexadecimal and decimal; and single bytes of a buffer.
+// Text: lines and words, hexadecimal and decimal; single bytes of a buffer; and, in `out`, printing.
 ghost use Prim.Native.Nat.{_-_, _≤_};
 ghost use lib.ListN.{length};
 
