@@ -24,15 +24,16 @@ use show::rows::ROWS;
 use show::rows::flag_at;
 use show::rows::row_of;
 use show::rows::value_at;
-use text::DecimalText;
 use text::Hex;
 use text::line_at;
 use text::out::note;
 use text::out::note_line;
 use text::out::note_number;
-use text::parse_decimal;
 use text::parse_hex;
 use text::position;
+use text::put_16;
+use text::put_list;
+use text::put_number;
 use text::set;
 use text::word;
 use words::low;
@@ -68,46 +69,6 @@ fn unless(fine: bool, what: usize) -> usize {
     if fine { FINE } else { what }
 }
 
-// Stores a number in `n` bytes, high byte first.
-fn put_bytes(out: &mut [u8], at: usize, n: usize, x: u64) {
-    let mut rest = x;
-    let mut i = n;
-    while 0 < i {
-        i -= 1;
-        set(out, at, i, low(rest));
-        rest = rest / 256;
-    }
-}
-
-// A decimal number of at most `most`, in `n` bytes; tells whether it is one.
-fn put_number(digits: &[u8], most: u64, out: &mut [u8], at: usize, n: usize) -> bool {
-    let DecimalText::Number(x) = parse_decimal(digits) else {
-        return false;
-    };
-    if most < x {
-        return false;
-    }
-    put_bytes(out, at, n, x);
-    true
-}
-
-// The words `from` to `to`, decimal numbers below 256, a byte for each; tells whether they are there and no word behind them.
-fn put_list(text: &[u8], from: usize, to: usize, sep: u8, out: &mut [u8], at: usize) -> bool {
-    let mut k = from;
-    while k < to {
-        let DecimalText::Number(x) = parse_decimal(word(text, k, sep)) else {
-            return false;
-        };
-        if 255 < x {
-            return false;
-        }
-        set(out, at, k - from, low(x));
-        k += 1;
-    }
-    let more = word(text, to, sep);
-    more.len() == 0
-}
-
 // Bytes behind their length. Too many get a length that is refused later.
 fn put_counted(digits: &[u8], out: &mut [u8], at: usize, room: u8) -> usize
     requires { ⌜ at < 70000 ⌝ }
@@ -125,14 +86,6 @@ fn put_counted(digits: &[u8], out: &mut [u8], at: usize, room: u8) -> usize
             FINE
         }
         _ => DIGITS,
-    }
-}
-
-// Exactly 16 bytes; tells whether they are.
-fn put_16(digits: &[u8], out: &mut [u8], at: usize) -> bool {
-    match parse_hex(digits, out, at, 16) {
-        Hex::Bytes(n) => n == 16,
-        _ => false,
     }
 }
 

@@ -182,3 +182,51 @@ pub fn parse_decimal(text: &[u8]) -> DecimalText {
     }
     DecimalText::Number(value)
 }
+
+// Stores a number in `n` bytes, high byte first.
+fn put_bytes(out: &mut [u8], at: usize, n: usize, x: u64) {
+    let mut rest = x;
+    let mut i = n;
+    while 0 < i {
+        i -= 1;
+        set(out, at, i, words::low(rest));
+        rest = rest / 256;
+    }
+}
+
+// A decimal number of at most `most`, in `n` bytes; tells whether it is one.
+pub fn put_number(digits: &[u8], most: u64, out: &mut [u8], at: usize, n: usize) -> bool {
+    let DecimalText::Number(x) = parse_decimal(digits) else {
+        return false;
+    };
+    if most < x {
+        return false;
+    }
+    put_bytes(out, at, n, x);
+    true
+}
+
+// The words `from` to `to`, decimal numbers below 256, a byte for each; tells whether they are there and no word behind them.
+pub fn put_list(text: &[u8], from: usize, to: usize, sep: u8, out: &mut [u8], at: usize) -> bool {
+    let mut k = from;
+    while k < to {
+        let DecimalText::Number(x) = parse_decimal(word(text, k, sep)) else {
+            return false;
+        };
+        if 255 < x {
+            return false;
+        }
+        set(out, at, k - from, words::low(x));
+        k += 1;
+    }
+    let more = word(text, to, sep);
+    more.len() == 0
+}
+
+// Exactly 16 bytes, in hexadecimal; tells whether they are.
+pub fn put_16(digits: &[u8], out: &mut [u8], at: usize) -> bool {
+    match parse_hex(digits, out, at, 16) {
+        Hex::Bytes(n) => n == 16,
+        _ => false,
+    }
+}

@@ -3,8 +3,8 @@ use Prim.Native.Nat.{_≤_, _-_}
 use lib.ListN.{length}
 use mathlib.Core.Path.{_≡_}
 use borrow.Author.Needs.{needs}
-use Rattle.form.proofs.put_list.Statement.{statement}
-use Rattle.form.proofs.put_list.Tie as tie
+use Rattle.text.proofs.put_list.Statement.{statement}
+use Rattle.text.proofs.put_list.Tie as tie
 
 abbrev Inv-loop : tie.InvT-loop
 Inv-loop text from to sep out₀ at k₀ out k = (from ≤ k) × (length out ≡ length out₀)

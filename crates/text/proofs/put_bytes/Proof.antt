@@ -2,8 +2,8 @@
 use lib.ListN.{length}
 use mathlib.Core.Path.{_≡_}
 use borrow.Author.Needs.{needs}
-use Rattle.form.proofs.put_bytes.Statement.{statement}
-use Rattle.form.proofs.put_bytes.Tie as tie
+use Rattle.text.proofs.put_bytes.Statement.{statement}
+use Rattle.text.proofs.put_bytes.Tie as tie
 
 abbrev Inv-loop : tie.InvT-loop
 Inv-loop out₀ at n x rest₀ i₀ out rest i = length out ≡ length out₀
