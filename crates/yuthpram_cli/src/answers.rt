@@ -1,16 +1,9 @@
 // What the commands answer: each is a call of the library, and its result in words.
+use crate::Status;
 use crate::fault::explain;
 use crate::fault::note_culprit;
 use crate::fault::refused;
-use crate::form;
 use crate::input::first;
-use crate::out::Status;
-use crate::out::note;
-use crate::out::put_count;
-use crate::out::say;
-use crate::out::say_hex;
-use crate::out::say_number;
-use crate::show;
 use catalogue::MAX_EXTENSION;
 use image::RECORD_SIZE;
 use libc::STDERR_FILENO;
@@ -20,6 +13,11 @@ use refusal::Answer;
 use refusal::Counted;
 use refusal::Refusal;
 use rules::Side;
+use text::out::note;
+use text::out::put_count;
+use text::out::say;
+use text::out::say_hex;
+use text::out::say_number;
 use varint::Decoded;
 use varint::VarInt;
 

@@ -1,11 +1,7 @@
 // Says what a refusal means and, for an extension, which parameter is at fault, at which byte it starts, and why.
 ghost use Prim.Native.Nat.{_≤_};
 ghost use lib.ListN.{length};
-use crate::out::Status;
-use crate::out::note;
-use crate::out::note_line;
-use crate::out::note_number;
-use crate::text::word;
+use crate::Status;
 use catalogue::ACK_DELAY_EXPONENT;
 use catalogue::ACTIVE_CONNECTION_ID_LIMIT;
 use catalogue::DISABLE_ACTIVE_MIGRATION;
@@ -30,6 +26,10 @@ use marks::is_marked;
 use marks::with_mark;
 use refusal::Refusal;
 use rules::Side;
+use text::out::note;
+use text::out::note_line;
+use text::out::note_number;
+use text::word;
 use value::Value;
 
 // The parameter at fault: where it starts, its identifier, and what is wrong.

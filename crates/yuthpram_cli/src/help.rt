@@ -1,7 +1,7 @@
 // What --help says, and the usage.
-use crate::out::Status;
-use crate::out::note;
-use crate::out::say;
+use crate::Status;
+use text::out::note;
+use text::out::say;
 
 fn usage(fd: i32) {
     io::write_all(

@@ -2,13 +2,13 @@
 ghost use mathlib.Core.Path.{_≡_};
 ghost use lib.ListN.{length};
 use crate::help;
-use crate::out::note;
-use crate::out::note_number;
-use crate::text::Hex;
-use crate::text::parse_hex;
-use crate::text::position;
 use libc::STDIN_FILENO;
 use rules::Side;
+use text::Hex;
+use text::out::note;
+use text::out::note_number;
+use text::parse_hex;
+use text::position;
 
 // The input's bytes, of which there are so many; or there is a complaint.
 pub enum Input {

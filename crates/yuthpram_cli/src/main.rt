@@ -1,22 +1,24 @@
 // The command-line tool: a thin program over the library. It reads text, prints answers and decides nothing about extensions.
 mod answers;
 mod fault;
-mod form;
 mod help;
 mod input;
-mod out;
-mod rows;
-mod show;
-mod text;
 
 use input::Input;
 use input::SideWord;
 use input::choice;
 use input::first;
 use input::is_followed;
-use out::STATUS_FILENO;
-use out::Status;
 use text::DecimalText;
+use text::out::STATUS_FILENO;
+
+// How a command ends. The wrapper makes its exit status of this.
+pub enum Status {
+    Answered,
+    Refused,
+    // not called as it should be
+    Misused,
+}
 
 // The commands, by their place in the list of words.
 const READ: usize = 0;
