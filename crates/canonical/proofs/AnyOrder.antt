@@ -1,7 +1,6 @@
 -- Parameters at distinct places, in any order, for any catalogue: nothing here names a place. Assumes nothing.
 --     ordered         distinct places: what is read is the values of these
 --     every-order     all places: what is read is all the values, in every order
---     same-order      so that what is read does not depend on the order
 use Prim.Native.Nat.{ℕ, _≤_, _<_}
 use mathlib.Core.Path.{_≡_, refl, sym, _∙_, fun-ext}
 use mathlib.Core.List.{List, [], _∷_, _++_}
@@ -54,9 +53,3 @@ every-order t f h b os d n = rw e (ordered t f h os d)
 
     e : noValues ≡ without os t
     e = fun-ext λ q. at q _ refl
-
-pub same-order : (t : Values) (f : ℕ → List ℕ) → Adds t f → ((q : ℕ) → places ≤ q → t q ≡ none)
-    → (os os′ : List ℕ) → permutation os ≡ true → permutation os′ ≡ true → parse noValues (concatOf f os) ≡ parse noValues (concatOf f os′)
-unfolding permutation
-same-order t f h b os os′ p p′ =
-    every-order t f h b os (all-at _ p 1) (eqb-true _ _ (all-at _ p 0)) ∙ sym (every-order t f h b os′ (all-at _ p′ 1) (eqb-true _ _ (all-at _ p′ 0)))

@@ -17,10 +17,6 @@ use Rattle.varint.specs.Number.{valueFrom, bytesOf, tagOf, form, numberB
 use Rattle.refusal.specs.Outcome.{Outcome, accepted, refused, pick}
 use Rattle.varint.proofs.Bytes.{length-bytesOf, value-bytesOf, value-lt, high-lt, four, width-range, length-form, tag-le, tag-room, tag-least}
 
-pub read-nil : readNumber [] ≡ refused 3
-unfolding readNumber
-read-nil = refl
-
 -- at every width that has room, longer than needed or not
 pub read-form : (k v : ℕ) (rest : List ℕ) → k ≤ 3 → v < 64 * 256 ^ (2 ^ k - 1) → readNumber (form k v ++ rest) ≡ accepted (v, 2 ^ k)
 unfolding readNumber form

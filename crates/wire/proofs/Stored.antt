@@ -96,9 +96,6 @@ lent-room p q n a l m h w =
     let e = wrote-length p n a l m (omega arith) w in
     behind q n m (omega (arith, w .few))
 
-pub wrote-none : (p : ℕ) (l : List ℕ) → Wrote p [] l 0 l
-wrote-none p l = record { count = refl; few = omega arith; bytes = sym (front-nil l) }
-
 pub wrote-few : (p q n : ℕ) (a l m : List ℕ) → n ≤ q → Wrote p a l n m → Wrote q a l n m
 wrote-few p q n a l m h w = record { count = w .count; few = h; bytes = w .bytes }
 

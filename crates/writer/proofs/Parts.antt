@@ -32,18 +32,6 @@ use Rattle.wire.proofs.Stored.{lent, back, length-front, lent-room, stored-whol
 use Rattle.wire.proofs.Put.{put-wrote, number-size, due-short, short-none, short-whole}
 use Rattle.writer.specs.Laid.{addressBytes}
 
--- the first n of an array
-pub prefix : (n m : ℕ) (l : List ℕ) → m ≤ length l → n ≡ m → (n ≤ length l) × (n ≡ length (take n l))
-prefix n m l h e = (omega arith, sym (length-take-le n l (omega arith)))
-
-pub cid-room : (o : OptionalConnectionId) → formedOptionalCid o ≡ true → o .cid .len ≤ length (o .cid .bytes)
-unfolding formedOptionalCid
-cid-room o h = let k = cid-facts (o .cid) (all-at _ h 0) in omega (arith, k .long, k .within)
-
-pub payload-room : (x : ReservedTransportParameter) → formedReserved x ≡ true → x .«payload_len» ≤ length (x .payload)
-unfolding formedReserved
-payload-room x h = omega (arith, eqb-true (length (x .payload)) 16 (all-at _ h 0), leb-true (x .«payload_len») 16 (all-at _ h 2))
-
 pub address-id : (a : PreferredAddress) → formedAddress a ≡ true → formedCid (a .«connection_id») ≡ true
 unfolding formedAddress
 address-id a h = all-at _ h 2
