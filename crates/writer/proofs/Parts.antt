@@ -7,7 +7,7 @@ use native.Mathlib.Omega.{arith}
 use native.Mathlib.Nat.{mod-eq-of-lt, div-one}
 use native.Mathlib.Numerals.{add-one}
 use lib.Dec.{ltb}
-use lib.ListN.{length, take, drop, set, length-append, length-take, drop-of-length-le}
+use lib.ListN.{length, take, drop, set, replicate, length-append, length-take, drop-of-length-le}
 use lib.Seq.{length-take-le, take-all, take-append-seam, drop-append-add, drop-drop, sets-eq}
 use borrow.Author.Tests.{eqb-true, leb-true, ltb-true, le-leb, lt-ltb}
 use Rattle.words.specs.Words.{zeros}
@@ -60,6 +60,10 @@ token-laid due id v out l h z =
     let d : drop 16 v ≡ [] = drop-of-length-le v {i = 16} (omega arith) in
     let t : take 16 v ≡ v = take-all 16 v (omega arith) in
     field-clear due id 16 v out (field-of 16 16 v l (omega arith) (omega arith) (omega arith)) (omega arith) z (rw d refl) ∙ rw t
+
+-- a flag is a field of zeros, and none of it the value
+pub flag-laid : (due : Bool) (id : ℕ) (out : List ℕ) → 32 ≤ length out → zeros out ≡ true → laidField due id 0 (replicate 8 0) out ≡ put (dueValue due id []) out
+flag-laid due id out h z = field-clear due id 0 (replicate 8 0) out refl (omega arith) z refl
 
 pub reserved-few : (x : ReservedTransportParameter) → formedReserved x ≡ true → length (dueValue (x .present) (x .id) (take (x .«payload_len») (x .payload))) ≤ 25
 unfolding formedReserved

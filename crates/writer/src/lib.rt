@@ -57,7 +57,6 @@ use record::TransportParameters;
 use refusal::Counted;
 use refusal::Refusal;
 use wire::put_bytes;
-use wire::put_value;
 use words::size;
 
 // So many bytes are copied at once.
@@ -98,6 +97,13 @@ fn put_token(t: OptionalResetToken, out: &mut [u8]) -> usize
         &bytes,
         out,
     )
+}
+
+fn put_flag(id: u64, flag: bool, out: &mut [u8]) -> usize
+    requires { ⌜ (32 ≤ length (now out)) × (zeros (now out) ≡ true) ⌝ }
+    ensures { λ r. ⌜ (r, now (out .exit)) ≡ put (dueValue flag id []) (now (out .entry)) ⌝ }
+{
+    lay_field(flag, id, 0, &[0; 8], out)
 }
 
 fn put_optional(id: u64, o: OptionalNumber, out: &mut [u8]) -> usize
@@ -208,7 +214,7 @@ fn put_11_to_13(
 {
     let a = at + put_reserved(x, &mut out[at..]);
     let b = a + put_token(t, &mut out[a..]);
-    let end = b + put_value(migration, DISABLE_ACTIVE_MIGRATION_ID, &[], &mut out[b..]);
+    let end = b + put_flag(DISABLE_ACTIVE_MIGRATION_ID, migration, &mut out[b..]);
     starts[STATELESS_RESET_TOKEN] = a;
     starts[DISABLE_ACTIVE_MIGRATION] = b;
     starts[MAX_DATAGRAM_FRAME_SIZE] = end;
@@ -255,7 +261,7 @@ fn put_17_to_20(
 {
     let a = at + put_cid(INITIAL_SRC_CID_ID, initial, &mut out[at..]);
     let b = a + put_cid(RETRY_SRC_CID_ID, retry, &mut out[a..]);
-    let e = b + put_value(grease, GREASE_QUIC_BIT_ID, &[], &mut out[b..]);
+    let e = b + put_flag(GREASE_QUIC_BIT_ID, grease, &mut out[b..]);
     let end = e + put_optional(MIN_ACK_DELAY_ID, delay, &mut out[e..]);
     starts[RETRY_SRC_CID] = a;
     starts[GREASE_QUIC_BIT] = b;

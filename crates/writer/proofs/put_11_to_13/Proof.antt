@@ -23,9 +23,9 @@ two : (c : tie.After-slice-known3) → Next 135 (c .before .before .before .befo
 unfolding idAt ids
 two c = open-next 135 _ 18 _ _ (back (c .before .before .before .before .before .before .before .before .before .args .at) (c .before .before .before .before .before .before .before .before .before .args .out .now) (c .before .before .before .before .before .before .put-reserved .last .1 .0)) _ (one (c .before .before .before .before) .opened) (omega arith) (token-few _ _ (c .before .before .before .before .before .before .before .before .before .pre .1)) (c .before .before .put-token .ensures)
 
-three : (c : tie.After-slice-known4) → Next 153 (c .before .before .before .before .before .before .before .before .before .before .before .before .before .before .args .at + c .before .before .before .before .before .before .before .before .before .before .before .put-reserved .result + c .before .before .before .before .before .before .before .put-token .result) 2 (c .before .before .put-value .result) (back (c .before .before .before .before .before .before .before .before .before .before .before .before .before .before .args .at + c .before .before .before .before .before .before .before .before .before .before .before .put-reserved .result) (back (c .before .before .before .before .before .before .before .before .before .before .before .before .before .before .args .at) (c .before .before .before .before .before .before .before .before .before .before .before .before .before .before .args .out .now) (c .before .before .before .before .before .before .before .before .before .before .before .put-reserved .last .1 .0)) (c .before .before .before .before .before .before .before .put-token .last .1 .0)) (c .before .before .put-value .last .1 .1 .1 .0)
+three : (c : tie.After-slice-known4) → Next 153 (c .before .before .before .before .before .before .before .before .before .before .before .before .before .args .at + c .before .before .before .before .before .before .before .before .before .before .put-reserved .result + c .before .before .before .before .before .before .put-token .result) 2 (c .before .before .put-flag .result) (back (c .before .before .before .before .before .before .before .before .before .before .before .before .before .args .at + c .before .before .before .before .before .before .before .before .before .before .put-reserved .result) (back (c .before .before .before .before .before .before .before .before .before .before .before .before .before .args .at) (c .before .before .before .before .before .before .before .before .before .before .before .before .before .args .out .now) (c .before .before .before .before .before .before .before .before .before .before .put-reserved .last .1 .0)) (c .before .before .before .before .before .before .put-token .last .1 .0)) (c .before .before .put-flag .last .1 .1 .0)
 unfolding idAt ids
-three c = open-next 153 _ 2 _ _ (back (c .before .before .before .before .before .before .before .before .before .before .before .before .before .before .args .at + c .before .before .before .before .before .before .before .before .before .before .before .put-reserved .result) (back (c .before .before .before .before .before .before .before .before .before .before .before .before .before .before .args .at) (c .before .before .before .before .before .before .before .before .before .before .before .before .before .before .args .out .now) (c .before .before .before .before .before .before .before .before .before .before .before .put-reserved .last .1 .0)) (c .before .before .before .before .before .before .before .put-token .last .1 .0)) _ (two (c .before .before .before .before .before) .opened) (omega arith) (short-flag-few _ 12 (omega arith)) (c .before .before .put-value .ensures)
+three c = open-next 153 _ 2 _ _ (back (c .before .before .before .before .before .before .before .before .before .before .before .before .before .args .at + c .before .before .before .before .before .before .before .before .before .before .put-reserved .result) (back (c .before .before .before .before .before .before .before .before .before .before .before .before .before .args .at) (c .before .before .before .before .before .before .before .before .before .before .before .before .before .args .out .now) (c .before .before .before .before .before .before .before .before .before .before .put-reserved .last .1 .0)) (c .before .before .before .before .before .before .put-token .last .1 .0)) _ (two (c .before .before .before .before) .opened) (omega arith) (short-flag-few _ 12 (omega arith)) (c .before .before .put-flag .ensures)
 
 sub-put-reserved : tie.Need-sub-put-reserved
 sub-put-reserved c = open-within (c .before .pre .3) (omega arith)
@@ -57,20 +57,17 @@ put-token-requires c κs = let o = open-lent (one (c .before) .opened) (omega ar
 add-b : tie.Need-add-b
 add-b c = let o = two c .opened in fits-most (o .within) (omega arith)
 
-slice-aggregate-put-value : tie.Need-slice-aggregate-put-value
-slice-aggregate-put-value c = refl
+sub-put-flag : tie.Need-sub-put-flag
+sub-put-flag c = open-within (two c .opened) (omega arith)
 
-sub-put-value : tie.Need-sub-put-value
-sub-put-value c = open-within (two (c .before) .opened) (omega arith)
+part-put-flag-start : tie.Need-part-put-flag-start
+part-put-flag-start c = open-within (two c .opened) (omega arith)
 
-part-put-value-start : tie.Need-part-put-value-start
-part-put-value-start c = open-within (two (c .before) .opened) (omega arith)
+part-put-flag-end : tie.Need-part-put-flag-end
+part-put-flag-end c = le-refl _
 
-part-put-value-end : tie.Need-part-put-value-end
-part-put-value-end c = le-refl _
-
-put-value-requires : tie.Need-put-value-requires
-put-value-requires c κs = tt
+put-flag-requires : tie.Need-put-flag-requires
+put-flag-requires c κs = let o = open-lent (two (c .before) .opened) (omega arith) in (o .0, o .1)
 
 add-end : tie.Need-add-end
 add-end c = let o = three c .opened in fits-most (o .within) (omega arith)
@@ -85,16 +82,16 @@ element-write-starts-3 : tie.Need-element-write-starts-3
 element-write-starts-3 c = ltb-true 14 22 refl
 
 same-length : tie.Need-same-length
-same-length c = three c .same ∙ two (c .before .before .before .before .before) .same ∙ one (c .before .before .before .before .before .before .before .before .before) .same
+same-length c = three c .same ∙ two (c .before .before .before .before) .same ∙ one (c .before .before .before .before .before .before .before .before) .same
 
 returns : tie.Need-returns
 unfolding laid idAt ids
 returns c =
-    let a = c .before .before .before .before .before .before .before .before .before .before .before .before .before .before .args in (
+    let a = c .before .before .before .before .before .before .before .before .before .before .before .before .before .args in (
       laid-three _ _ _ 12 (a .at) _ _ _ (a .out .now) _ _ _ (a .starts .now)
-          (c .before .before .before .before .before .before .before .before .before .before .before .put-reserved .ensures)
-          (c .before .before .before .before .before .before .before .put-token .ensures)
-          (c .before .before .put-value .ensures),
+          (c .before .before .before .before .before .before .before .before .before .before .put-reserved .ensures)
+          (c .before .before .before .before .before .before .put-token .ensures)
+          (c .before .before .put-flag .ensures),
       three c .opened,
     )
 
@@ -112,11 +109,10 @@ put-11-to-13-spec =
     part-put-token-end
     put-token-requires
     add-b
-    slice-aggregate-put-value
-    sub-put-value
-    part-put-value-start
-    part-put-value-end
-    put-value-requires
+    sub-put-flag
+    part-put-flag-start
+    part-put-flag-end
+    put-flag-requires
     add-end
     element-write-starts
     element-write-starts-2

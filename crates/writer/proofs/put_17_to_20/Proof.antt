@@ -23,13 +23,13 @@ two : (c : tie.After-slice-known3) → Next 272 (c .before .before .before .befo
 unfolding idAt ids
 two c = open-next 272 _ 22 _ _ (back (c .before .before .before .before .before .before .before .before .before .args .at) (c .before .before .before .before .before .before .before .before .before .args .out .now) (c .before .before .before .before .before .before .put-cid .last .1 .1 .0)) _ (one (c .before .before .before .before) .opened) (omega arith) (cid-few 16 _ (omega arith) (c .before .before .before .before .before .before .before .before .before .pre .1)) (c .before .before .put-cid2 .ensures)
 
-three : (c : tie.After-slice-known4) → Next 294 (c .before .before .before .before .before .before .before .before .before .before .before .before .before .before .args .at + c .before .before .before .before .before .before .before .before .before .before .before .put-cid .result + c .before .before .before .before .before .before .before .put-cid2 .result) 9 (c .before .before .put-value .result) (back (c .before .before .before .before .before .before .before .before .before .before .before .before .before .before .args .at + c .before .before .before .before .before .before .before .before .before .before .before .put-cid .result) (back (c .before .before .before .before .before .before .before .before .before .before .before .before .before .before .args .at) (c .before .before .before .before .before .before .before .before .before .before .before .before .before .before .args .out .now) (c .before .before .before .before .before .before .before .before .before .before .before .put-cid .last .1 .1 .0)) (c .before .before .before .before .before .before .before .put-cid2 .last .1 .1 .0)) (c .before .before .put-value .last .1 .1 .1 .0)
+three : (c : tie.After-slice-known4) → Next 294 (c .before .before .before .before .before .before .before .before .before .before .before .before .before .args .at + c .before .before .before .before .before .before .before .before .before .before .put-cid .result + c .before .before .before .before .before .before .put-cid2 .result) 9 (c .before .before .put-flag .result) (back (c .before .before .before .before .before .before .before .before .before .before .before .before .before .args .at + c .before .before .before .before .before .before .before .before .before .before .put-cid .result) (back (c .before .before .before .before .before .before .before .before .before .before .before .before .before .args .at) (c .before .before .before .before .before .before .before .before .before .before .before .before .before .args .out .now) (c .before .before .before .before .before .before .before .before .before .before .put-cid .last .1 .1 .0)) (c .before .before .before .before .before .before .put-cid2 .last .1 .1 .0)) (c .before .before .put-flag .last .1 .1 .0)
 unfolding idAt ids
-three c = open-next 294 _ 9 _ _ (back (c .before .before .before .before .before .before .before .before .before .before .before .before .before .before .args .at + c .before .before .before .before .before .before .before .before .before .before .before .put-cid .result) (back (c .before .before .before .before .before .before .before .before .before .before .before .before .before .before .args .at) (c .before .before .before .before .before .before .before .before .before .before .before .before .before .before .args .out .now) (c .before .before .before .before .before .before .before .before .before .before .before .put-cid .last .1 .1 .0)) (c .before .before .before .before .before .before .before .put-cid2 .last .1 .1 .0)) _ (two (c .before .before .before .before .before) .opened) (omega arith) (flag-few _ _) (c .before .before .put-value .ensures)
+three c = open-next 294 _ 9 _ _ (back (c .before .before .before .before .before .before .before .before .before .before .before .before .before .args .at + c .before .before .before .before .before .before .before .before .before .before .put-cid .result) (back (c .before .before .before .before .before .before .before .before .before .before .before .before .before .args .at) (c .before .before .before .before .before .before .before .before .before .before .before .before .before .args .out .now) (c .before .before .before .before .before .before .before .before .before .before .put-cid .last .1 .1 .0)) (c .before .before .before .before .before .before .put-cid2 .last .1 .1 .0)) _ (two (c .before .before .before .before) .opened) (omega arith) (flag-few _ _) (c .before .before .put-flag .ensures)
 
-four : (c : tie.After-slice-known5) → Next 303 (c .before .before .before .before .before .before .before .before .before .before .before .before .before .before .before .before .before .before .args .at + c .before .before .before .before .before .before .before .before .before .before .before .before .before .before .before .put-cid .result + c .before .before .before .before .before .before .before .before .before .before .before .put-cid2 .result + c .before .before .before .before .before .before .put-value .result) 17 (c .before .before .put-optional .result) (back (c .before .before .before .before .before .before .before .before .before .before .before .before .before .before .before .before .before .before .args .at + c .before .before .before .before .before .before .before .before .before .before .before .before .before .before .before .put-cid .result + c .before .before .before .before .before .before .before .before .before .before .before .put-cid2 .result) (back (c .before .before .before .before .before .before .before .before .before .before .before .before .before .before .before .before .before .before .args .at + c .before .before .before .before .before .before .before .before .before .before .before .before .before .before .before .put-cid .result) (back (c .before .before .before .before .before .before .before .before .before .before .before .before .before .before .before .before .before .before .args .at) (c .before .before .before .before .before .before .before .before .before .before .before .before .before .before .before .before .before .before .args .out .now) (c .before .before .before .before .before .before .before .before .before .before .before .before .before .before .before .put-cid .last .1 .1 .0)) (c .before .before .before .before .before .before .before .before .before .before .before .put-cid2 .last .1 .1 .0)) (c .before .before .before .before .before .before .put-value .last .1 .1 .1 .0)) (c .before .before .put-optional .last .1 .1 .0)
+four : (c : tie.After-slice-known5) → Next 303 (c .before .before .before .before .before .before .before .before .before .before .before .before .before .before .before .before .before .args .at + c .before .before .before .before .before .before .before .before .before .before .before .before .before .before .put-cid .result + c .before .before .before .before .before .before .before .before .before .before .put-cid2 .result + c .before .before .before .before .before .before .put-flag .result) 17 (c .before .before .put-optional .result) (back (c .before .before .before .before .before .before .before .before .before .before .before .before .before .before .before .before .before .args .at + c .before .before .before .before .before .before .before .before .before .before .before .before .before .before .put-cid .result + c .before .before .before .before .before .before .before .before .before .before .put-cid2 .result) (back (c .before .before .before .before .before .before .before .before .before .before .before .before .before .before .before .before .before .args .at + c .before .before .before .before .before .before .before .before .before .before .before .before .before .before .put-cid .result) (back (c .before .before .before .before .before .before .before .before .before .before .before .before .before .before .before .before .before .args .at) (c .before .before .before .before .before .before .before .before .before .before .before .before .before .before .before .before .before .args .out .now) (c .before .before .before .before .before .before .before .before .before .before .before .before .before .before .put-cid .last .1 .1 .0)) (c .before .before .before .before .before .before .before .before .before .before .put-cid2 .last .1 .1 .0)) (c .before .before .before .before .before .before .put-flag .last .1 .1 .0)) (c .before .before .put-optional .last .1 .1 .0)
 unfolding idAt ids
-four c = open-next 303 _ 17 _ _ (back (c .before .before .before .before .before .before .before .before .before .before .before .before .before .before .before .before .before .before .args .at + c .before .before .before .before .before .before .before .before .before .before .before .before .before .before .before .put-cid .result + c .before .before .before .before .before .before .before .before .before .before .before .put-cid2 .result) (back (c .before .before .before .before .before .before .before .before .before .before .before .before .before .before .before .before .before .before .args .at + c .before .before .before .before .before .before .before .before .before .before .before .before .before .before .before .put-cid .result) (back (c .before .before .before .before .before .before .before .before .before .before .before .before .before .before .before .before .before .before .args .at) (c .before .before .before .before .before .before .before .before .before .before .before .before .before .before .before .before .before .before .args .out .now) (c .before .before .before .before .before .before .before .before .before .before .before .before .before .before .before .put-cid .last .1 .1 .0)) (c .before .before .before .before .before .before .before .before .before .before .before .put-cid2 .last .1 .1 .0)) (c .before .before .before .before .before .before .put-value .last .1 .1 .1 .0)) _ (three (c .before .before .before .before) .opened) (omega arith) (long-number-few _ _ _) (c .before .before .put-optional .ensures)
+four c = open-next 303 _ 17 _ _ (back (c .before .before .before .before .before .before .before .before .before .before .before .before .before .before .before .before .before .args .at + c .before .before .before .before .before .before .before .before .before .before .before .before .before .before .put-cid .result + c .before .before .before .before .before .before .before .before .before .before .put-cid2 .result) (back (c .before .before .before .before .before .before .before .before .before .before .before .before .before .before .before .before .before .args .at + c .before .before .before .before .before .before .before .before .before .before .before .before .before .before .put-cid .result) (back (c .before .before .before .before .before .before .before .before .before .before .before .before .before .before .before .before .before .args .at) (c .before .before .before .before .before .before .before .before .before .before .before .before .before .before .before .before .before .args .out .now) (c .before .before .before .before .before .before .before .before .before .before .before .before .before .before .put-cid .last .1 .1 .0)) (c .before .before .before .before .before .before .before .before .before .before .put-cid2 .last .1 .1 .0)) (c .before .before .before .before .before .before .put-flag .last .1 .1 .0)) _ (three (c .before .before .before .before) .opened) (omega arith) (long-number-few _ _ _) (c .before .before .put-optional .ensures)
 
 sub-put-cid : tie.Need-sub-put-cid
 sub-put-cid c = open-within (c .before .pre .3) (omega arith)
@@ -61,20 +61,17 @@ put-cid-requires-2 c κs = let o = open-lent (one (c .before) .opened) (omega ar
 add-b : tie.Need-add-b
 add-b c = let o = two c .opened in fits-most (o .within) (omega arith)
 
-slice-aggregate-put-value : tie.Need-slice-aggregate-put-value
-slice-aggregate-put-value c = refl
+sub-put-flag : tie.Need-sub-put-flag
+sub-put-flag c = open-within (two c .opened) (omega arith)
 
-sub-put-value : tie.Need-sub-put-value
-sub-put-value c = open-within (two (c .before) .opened) (omega arith)
+part-put-flag-start : tie.Need-part-put-flag-start
+part-put-flag-start c = open-within (two c .opened) (omega arith)
 
-part-put-value-start : tie.Need-part-put-value-start
-part-put-value-start c = open-within (two (c .before) .opened) (omega arith)
+part-put-flag-end : tie.Need-part-put-flag-end
+part-put-flag-end c = le-refl _
 
-part-put-value-end : tie.Need-part-put-value-end
-part-put-value-end c = le-refl _
-
-put-value-requires : tie.Need-put-value-requires
-put-value-requires c κs = tt
+put-flag-requires : tie.Need-put-flag-requires
+put-flag-requires c κs = let o = open-lent (two (c .before) .opened) (omega arith) in (o .0, o .1)
 
 add-e : tie.Need-add-e
 add-e c = let o = three c .opened in fits-most (o .within) (omega arith)
@@ -107,16 +104,16 @@ element-write-starts-4 : tie.Need-element-write-starts-4
 element-write-starts-4 c = ltb-true 21 22 refl
 
 same-length : tie.Need-same-length
-same-length c = four c .same ∙ three (c .before .before .before .before) .same ∙ two (c .before .before .before .before .before .before .before .before .before) .same ∙ one (c .before .before .before .before .before .before .before .before .before .before .before .before .before) .same
+same-length c = four c .same ∙ three (c .before .before .before .before) .same ∙ two (c .before .before .before .before .before .before .before .before) .same ∙ one (c .before .before .before .before .before .before .before .before .before .before .before .before) .same
 
 returns : tie.Need-returns
 unfolding laid idAt ids
 returns c =
-    let a = c .before .before .before .before .before .before .before .before .before .before .before .before .before .before .before .before .before .before .args in (
+    let a = c .before .before .before .before .before .before .before .before .before .before .before .before .before .before .before .before .before .args in (
       laid-four _ _ _ 18 (a .at) _ _ _ (a .out .now) _ _ _ (a .starts .now)
-          (c .before .before .before .before .before .before .before .before .before .before .before .before .before .before .before .put-cid .ensures)
-          (c .before .before .before .before .before .before .before .before .before .before .before .put-cid2 .ensures)
-          (c .before .before .before .before .before .before .put-value .ensures) _ _ _
+          (c .before .before .before .before .before .before .before .before .before .before .before .before .before .before .put-cid .ensures)
+          (c .before .before .before .before .before .before .before .before .before .before .put-cid2 .ensures)
+          (c .before .before .before .before .before .before .put-flag .ensures) _ _ _
           (c .before .before .put-optional .ensures),
       four c .opened,
     )
@@ -135,11 +132,10 @@ put-17-to-20-spec =
     part-put-cid-end-2
     put-cid-requires-2
     add-b
-    slice-aggregate-put-value
-    sub-put-value
-    part-put-value-start
-    part-put-value-end
-    put-value-requires
+    sub-put-flag
+    part-put-flag-start
+    part-put-flag-end
+    put-flag-requires
     add-e
     sub-put-optional
     part-put-optional-start
