@@ -11,7 +11,7 @@ use lib.Seq.{length-take-le, take-append-seam, drop-append-add, drop-drop, sets-
 use borrow.Author.Tests.{eqb-true, leb-true}
 use Rattle.refusal.specs.Outcome.{Outcome, accepted, refused, front}
 use Rattle.refusal.proofs.Laws.{all-at}
-use Rattle.varint.specs.Number.{bytesOf}
+use Rattle.words.specs.Words.{bytesOf}
 use Rattle.connection_id.specs.declared.ConnectionId.{ConnectionId}
 use Rattle.connection_id.specs.ConnectionId.{cidWire, formedCid, writeCid}
 use Rattle.connection_id.proofs.Laws.{cid-facts, cid-length}

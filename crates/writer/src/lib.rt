@@ -6,7 +6,7 @@ ghost use Prim.Native.Nat.{_+_, _<_, _≤_};
 ghost use lib.ListN.{length, take, drop};
 ghost use Rattle.refusal.specs.Outcome.{pick, front, store};
 ghost use Rattle.refusal.specs.Answer.{countOutcome};
-ghost use Rattle.varint.specs.Number.{bytesOf};
+ghost use Rattle.words.specs.Words.{bytesOf};
 ghost use Rattle.connection_id.specs.ConnectionId.{cidBytes, formedCid};
 ghost use Rattle.catalogue.specs.Catalogue.{places, idAt};
 ghost use Rattle.record.specs.Values.{ofV4, ofV6, familyOut};
