@@ -61,6 +61,9 @@ pub const FLAG_PLACES: u32 = 0x82000;
 
 pub const CID_PLACES: u32 = 0x70000;
 
+// Those of numbers, flags, IDs and the token.
+pub const SIMPLE_PLACES: u32 = 0x1f77ff;
+
 // Their names, each in a column of the same width.
 pub const NAME_WIDTH: usize = 36;
 

@@ -6,7 +6,7 @@ use mathlib.Core.List.{List, [], _∷_, _++_}
 use lib.ListN.{length, take, drop, replicate}
 use lib.Dec.{leb, eqb}
 use Rattle.refusal.specs.Outcome.{Outcome, accepted, refused, pick, all, store}
-use Rattle.words.specs.Words.{zeros}
+use Rattle.words.specs.Words.{zeros, sameBytes}
 use Rattle.connection_id.specs.declared.ConnectionId.{ConnectionId}
 
 -- the ID of at most 20 bytes v: zeros after it
@@ -20,6 +20,10 @@ cidBytes c = take (c .len) (c .bytes)
 -- well formed: an array of 20 bytes, as its type says, of which at most 20 are the ID's, and zeros after them
 unfoldable pub formedCid : ConnectionId → Bool
 formedCid c = all (eqb (length (c .bytes)) 20 ∷ leb (c .len) 20 ∷ zeros (drop (c .len) (c .bytes)) ∷ [])
+
+-- the same length, and the same bytes
+unfoldable pub sameCid : ConnectionId → ConnectionId → Bool
+sameCid c d = eqb (c .len) (d .len) && sameBytes (c .bytes) (d .bytes)
 
 -- the ID of bytes handed in: 7 for more than 20, else the ID and how many they are
 unfoldable pub makeCid : List ℕ → Outcome (ConnectionId × ℕ)

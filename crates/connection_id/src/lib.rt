@@ -5,11 +5,13 @@ ghost use Prim.Native.Nat.{_+_, _≤_, _<_};
 ghost use lib.ListN.{length, drop};
 ghost use lib.Seq.{paste};
 ghost use Rattle.words.specs.Words.{zeros};
-ghost use Rattle.connection_id.specs.ConnectionId.{cidOf, formedCid, makeCid, readCid, writeCid};
+ghost use Rattle.connection_id.specs.ConnectionId.{cidOf, formedCid, sameCid, makeCid, readCid, writeCid};
 ghost use Rattle.connection_id.specs.Answer.{madeOf, readOutcome, settled};
 ghost use Rattle.refusal.specs.Answer.{countOutcome};
 use refusal::Counted;
 use refusal::Refusal;
+use words::and;
+use words::same20;
 use words::zero20_from;
 
 pub struct ConnectionId {
@@ -62,6 +64,15 @@ impl ConnectionId {
         }
         let bytes = self.bytes;
         zero20_from(&bytes, n)
+    }
+
+    // Whether two IDs are the same, well formed or not.
+    pub fn equals(self, other: ConnectionId) -> bool
+        ensures { λ r. ⌜ r ≡ sameCid self other ⌝ }
+    {
+        let a = self.bytes;
+        let b = other.bytes;
+        and(self.len == other.len, same20(&a, &b))
     }
 
     // The ID behind the length byte at the front of `src`.

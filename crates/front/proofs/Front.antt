@@ -4,9 +4,9 @@
 --     parts             two numbers and a value are a parameter
 --     front-parameter   a parameter that was written is read, with any bytes behind it
 --     shorter           fewer bytes are behind it
-use Prim.Native.Nat.{ℕ, suc, _+_, _-_, _/_, _^_, _≤_, _<_}
+use Prim.Native.Nat.{ℕ, _^_, _≤_, _<_}
 use mathlib.Core.Path.{_≡_, ap, sym, _∙_}
-use mathlib.Core.List.{List, [], _∷_, _++_, append-assoc}
+use mathlib.Core.List.{List, _++_, append-assoc}
 use native.Mathlib.Omega.{arith}
 use lib.ListN.{length, take, drop, length-append, length-drop}
 use lib.Seq.{take-append-le, drop-append-le, take-append-seam, drop-append-seam}
@@ -14,7 +14,7 @@ use borrow.Author.Tests.{le-leb, leb-true}
 use Rattle.refusal.specs.Outcome.{Outcome, accepted, refused}
 use Rattle.refusal.proofs.Laws.{inverted, picked}
 use Rattle.varint.specs.Number.{numberBytes, readNumber}
-use Rattle.varint.proofs.Laws.{read-number-bytes, read-within}
+use Rattle.varint.proofs.Laws.{read-number-bytes, read-within, number-append}
 use Rattle.catalogue.specs.Catalogue.{parameter}
 use Rattle.front.specs.declared.Fault.the-variants.{Cut}
 use Rattle.front.specs.Parameter.{orCut, readParameter}
@@ -57,16 +57,6 @@ pub unfront : (bs : List ℕ) (i n l m : ℕ) → readNumber bs ≡ accepted (i,
     → l ≤ length (drop m (drop n bs)) → readParameter bs ≡ accepted (i, take l (drop m (drop n bs)), drop l (drop m (drop n bs)))
 unfolding readParameter
 unfront bs i n l m e f h = rw (e, f, le-leb _ _ h)
-
-pub number-append : (bs cs : List ℕ) (a : ℕ × ℕ) → readNumber bs ≡ accepted a → readNumber (bs ++ cs) ≡ accepted a
-unfolding readNumber
-number-append [] cs a e = let z : _≡_ {A = ℕ} 0 1 = cc in absurd (omega arith)
-number-append (b ∷ bs) cs a e =
-    picked _ _ a 3 e λ t q.
-    let h : 2 ^ (b / 64) ≤ suc (length bs) = leb-true _ _ t in
-    let h′ : 2 ^ (b / 64) ≤ suc (length (bs ++ cs)) = simp length-append (omega arith) in
-    let k : 2 ^ (b / 64) - 1 ≤ length bs = omega arith in
-    rw (le-leb _ _ h′, take-append-le _ bs cs k) (ap accepted q)
 
 front-appended : (bs cs : List ℕ) (id : ℕ) (v rest : List ℕ) → Front bs id v rest → readParameter (bs ++ cs) ≡ accepted (id, v, rest ++ cs)
 front-appended bs cs id v rest f =

@@ -27,7 +27,7 @@ use Rattle.front.proofs.Front.{not-cut}
 abbrev pub lent : List ℕ → ℕ → List ℕ
 lent s at = take (length s - at) (drop at s)
 
-lent-is : (s : List ℕ) (at : ℕ) → lent s at ≡ drop at s
+pub lent-is : (s : List ℕ) (at : ℕ) → lent s at ≡ drop at s
 lent-is s at = take-all (length s - at) (drop at s) (rw length-drop (omega arith))
 
 pub none-there : (s : List ℕ) (at : ℕ) → length s < at → refused Cut ≡ located s at

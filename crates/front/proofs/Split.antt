@@ -12,7 +12,8 @@ use lib.Dec.{leb}
 use borrow.Author.Tests.{le-leb, leb-true}
 use Rattle.refusal.specs.Outcome.{Outcome, accepted, refused, pick}
 use Rattle.refusal.proofs.Laws.{picked}
-use Rattle.varint.specs.Number.{readNumber, valueFrom}
+use Rattle.varint.specs.Number.{readNumber}
+use Rattle.words.specs.Words.{valueFrom}
 use Rattle.varint.proofs.Laws.{read-within}
 use Rattle.front.specs.Parameter.{readParameter}
 use Rattle.front.specs.Whole.{Whole}

@@ -14,9 +14,9 @@ use lib.Dec.{T, leb, ltb, eqb, lit<}
 use borrow.Author.Tests.{eqb-true, ltb-true, eq-eqb}
 use Rattle.refusal.specs.Outcome.{accepted, pick, all}
 use Rattle.refusal.proofs.Laws.{all-at}
-use Rattle.varint.specs.Number.{bound, valueFrom, bytesOf}
-use Rattle.varint.proofs.Bytes.{value-bytesOf}
-use Rattle.words.specs.Words.{every}
+use Rattle.varint.specs.Number.{bound}
+use Rattle.words.proofs.Big.{value-bytesOf}
+use Rattle.words.specs.Words.{every, valueFrom, bytesOf}
 use Rattle.connection_id.specs.declared.ConnectionId.{ConnectionId}
 use Rattle.connection_id.specs.ConnectionId.{formedCid}
 use Rattle.record.specs.declared.TransportParameters.{TransportParameters}

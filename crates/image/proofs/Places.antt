@@ -6,7 +6,7 @@
 --     bytes-part     n bytes, copied over n others
 --     number-eight, number-two    a number by its bytes
 --     flags-more     a turn of the loop that tests the flags
-use Prim.Native.Nat.{ℕ, zero, suc, _+_, _-_, _*_, _≤_, _<_}
+use Prim.Native.Nat.{ℕ, suc, _+_, _-_, _≤_, _<_}
 use mathlib.Core.Path.{_≡_, refl, ap₂, sym, _∙_}
 use mathlib.Core.List.{List, [], _∷_, _++_, append-nil}
 use mathlib.Core.Bool.{Bool, true, false, _&&_}
@@ -14,13 +14,14 @@ use native.Mathlib.Nat.{add-zero}
 use native.Mathlib.Numerals.{add-one}
 use native.Mathlib.Omega.{arith}
 use lib.ListN.{length, getD, take, drop, set, length-drop, drop-of-length-le}
-use lib.Seq.{sets, sets-eq, take-suc, drop-cons, length-take-le}
+use lib.Seq.{sets, sets-eq, take-suc, take-all, drop-cons, length-take-le}
 use lib.Dec.{T, leb, ltb, lit≤, lit<}
 use lib.Bits.{bitOr, bitAnd, or-lt, or-add-and, and-le-l, and-le-r}
 use borrow.Author.Tests.{ltb-true, le-leb, lt-leb, leb-true, leb-false, eqb-true}
+use Rattle.refusal.specs.Outcome.{pick}
 use Rattle.refusal.proofs.Laws.{all-at}
-use Rattle.varint.specs.Number.{valueFrom}
-use Rattle.words.specs.Words.{every, wordOf}
+use Rattle.words.specs.Words.{every, wordOf, valueFrom}
+use Rattle.words.proofs.Big.{value-gathered}
 use Rattle.words.proofs.Laws.{every-at, and-assoc, and-true}
 use Rattle.image.specs.Image.{part, numberAt, flagPlaces, flagsHold, isImage}
 
@@ -59,27 +60,15 @@ bytes-part n at s z b h l e =
 
 -- NUMBERS
 module _ (s : List ℕ) (at : ℕ) where
-  -- n bytes from the k-th on, after the number a
-  abbrev gathered : ℕ → ℕ → ℕ → ℕ
-  gathered zero k a = a
-  gathered (suc n) k a = gathered n (suc k) (a * 256 + getD s (at + k) 0)
-
-  value-gathered : (n k a : ℕ) → at + k + n ≤ length s → valueFrom a (take n (drop (at + k) s)) ≡ gathered n k a
-  value-gathered zero k a h = refl
-  value-gathered (suc n) k a h =
-      let e : suc (at + k) ≡ at + suc k = omega arith in
-      rw (drop-cons s (at + k) 0 (omega arith), e) (value-gathered n (suc k) (a * 256 + getD s (at + k) 0) (omega arith))
-
-  number-gathered : (n : ℕ) → at + n ≤ length s → numberAt at n s ≡ gathered n 0 0
-  number-gathered n h = let e : at + 0 ≡ at = omega arith in rw e at (value-gathered n 0 0 (omega arith))
-
-  pub number-eight : at + 8 ≤ length s
-      → wordOf (getD s (at + 7) 0 ∷ getD s (at + 6) 0 ∷ getD s (at + 5) 0 ∷ getD s (at + 4) 0 ∷ getD s (at + 3) 0 ∷ getD s (at + 2) 0 ∷ getD s (at + 1) 0 ∷ getD s at 0 ∷ [])
-      ≡ numberAt at 8 s
-  number-eight h = let e : at + 0 ≡ at = omega arith in let g = rw e at (number-gathered 8 h) in omega (arith, g)
+  -- eight bytes, at the front of what is lent
+  pub number-eight : at + 8 ≤ length s → pick (leb 8 (length (take (length s - at) (drop at s)))) (valueFrom 0 (take 8 (take (length s - at) (drop at s)))) 0 ≡ numberAt at 8 s
+  number-eight h =
+      let l = take-all (length s - at) (drop at s) (rw length-drop (omega arith)) in
+      let k : 8 ≤ length (drop at s) = rw length-drop (omega arith) in
+      rw (l, le-leb 8 _ k)
 
   pub number-two : at + 2 ≤ length s → wordOf (getD s (at + 1) 0 ∷ getD s at 0 ∷ []) ≡ numberAt at 2 s
-  number-two h = let e : at + 0 ≡ at = omega arith in let g = rw e at (number-gathered 2 h) in omega (arith, g)
+  number-two h = rw (add-one at) (omega (arith, value-gathered 2 at 0 s h))
 
 -- FLAGS: those met are joined in acc, and the rest stand from the i-th place on
 or-flags : (a b : ℕ) → leb (bitOr a b) 1 ≡ (leb a 1 && leb b 1)

@@ -12,8 +12,9 @@ use lib.ListN.{length, getD, take, set, length-append}
 use lib.Seq.{sets, take-suc, length-take-le}
 use borrow.Author.Tests.{le-leb, lt-leb}
 use Rattle.refusal.specs.Outcome.{accepted, refused, store}
-use Rattle.varint.specs.Number.{bytesOf}
-use Rattle.varint.proofs.Bytes.{length-bytesOf, stored}
+use Rattle.words.specs.Words.{bytesOf}
+use Rattle.varint.proofs.Bytes.{stored}
+use Rattle.words.proofs.Big.{length-bytesOf}
 use Rattle.record.specs.declared.TransportParameters.{TransportParameters}
 use Rattle.record.specs.Values.{Family}
 use Rattle.record.specs.Record.{least}

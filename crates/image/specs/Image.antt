@@ -6,8 +6,7 @@ use mathlib.Core.Bool.{Bool, _||_}
 use lib.ListN.{length, getD, take, drop}
 use lib.Dec.{leb, eqb}
 use Rattle.refusal.specs.Outcome.{Outcome, accepted, refused, pick, all}
-use Rattle.varint.specs.Number.{valueFrom, bytesOf}
-use Rattle.words.specs.Words.{every}
+use Rattle.words.specs.Words.{every, valueFrom, bytesOf}
 use Rattle.connection_id.specs.declared.ConnectionId.{ConnectionId}
 use Rattle.record.specs.declared.TransportParameters.{TransportParameters}
 use Rattle.record.specs.declared.OptionalNumber.{OptionalNumber}

@@ -26,10 +26,11 @@ use refusal::Answer;
 use refusal::Counted;
 use refusal::Refusal;
 use words::and;
+use words::big8;
+use words::bytes8;
 use words::low;
 use words::or;
 use words::word2;
-use words::word8;
 
 // The answer, and the record: the default one if refused.
 pub struct ImagedRecord {
@@ -64,21 +65,12 @@ fn put_bytes(bytes: &[u8], at: usize, out: &mut [u8])
 }
 
 // READING AN IMAGE
-// The number of eight bytes at a place, high byte first. The compiler makes one load of them.
+// The number of eight bytes at a place, high byte first.
 fn number_at(s: &[u8], at: usize) -> u64
     requires { ⌜ at + 8 ≤ length (now s) ⌝ }
     ensures { λ r. ⌜ r ≡ numberAt at 8 (now (s .entry)) ⌝ }
 {
-    word8(
-        s[at + 7],
-        s[at + 6],
-        s[at + 5],
-        s[at + 4],
-        s[at + 3],
-        s[at + 2],
-        s[at + 1],
-        s[at],
-    )
+    big8(&s[at..])
 }
 
 fn port_at(s: &[u8], at: usize) -> u16
@@ -327,22 +319,6 @@ fn flag_byte(b: bool) -> u8
     ensures { λ r. ⌜ r ≡ flagByte b ⌝ }
 {
     if b { 1 } else { 0 }
-}
-
-// The eight bytes of a number, high byte first.
-fn bytes8(x: u64) -> [u8; 8]
-    ensures { λ r. ⌜ r ≡ eightBytes x ⌝ }
-{
-    [
-        low(x >> 56),
-        low(x >> 48),
-        low(x >> 40),
-        low(x >> 32),
-        low(x >> 24),
-        low(x >> 16),
-        low(x >> 8),
-        low(x),
-    ]
 }
 
 // Stores a byte, a flag or a length, and what stands behind it.

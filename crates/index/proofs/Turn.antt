@@ -1,11 +1,12 @@
 -- Laws of one turn of the scan. Assumes nothing.
+--     value-lent    the value of a parameter, lent with what is behind it
 --     stop, cut-off, passed, faulty, taken     the end; a broken parameter; an unknown one; a value refused; a value received
 use Prim.Native.Nat.{ℕ, zero, suc, _-_, _≤_, _<_}
 use mathlib.Core.Path.{_≡_, refl, ap, sym, _∙_, fun-ext}
 use mathlib.Core.List.{List}
 use mathlib.Core.Bool.{Bool, true, false}
 use native.Mathlib.Omega.{arith}
-use lib.ListN.{length}
+use lib.ListN.{length, take}
 use lib.Dec.{ltb}
 use borrow.Author.Tests.{lt-ltb, le-ltb, ltb-true, ltb-false}
 use Rattle.refusal.specs.Outcome.{Result, accepted, refused, pick, andThen}
@@ -14,7 +15,7 @@ use Rattle.catalogue.specs.Catalogue.{places, placeOf}
 use Rattle.front.specs.declared.Fault.{Fault}
 use Rattle.front.specs.declared.Fault.the-variants.{Cut}
 use Rattle.front.specs.Parameter.{located}
-use Rattle.front.proofs.Position.{within}
+use Rattle.front.proofs.Position.{lent, lent-is, within}
 use Rattle.value.specs.Value.{receiveValue}
 use Rattle.index.specs.Index.{Found, keep, note, between, indexIn, indexFrom}
 
@@ -39,6 +40,10 @@ fuel (suc n) (suc m) s at f hn hm = go (ltb at (length s)) refl (fuel n m)
             let h = ltb-true at (length s) e in
             let w = within s at (i .0) (i .1) (i .2) (omega arith) (sym q) in
             ap (andThen (note f (i .0) (i .1) (between s (i .1) (i .2)))) (fun-ext λ g. ih s (i .2) g (omega (arith, w .behind, w .start)) (omega (arith, w .behind, w .start)))
+
+-- a value at the front of what is lent
+pub value-lent : (s : List ℕ) (p a e : ℕ) (b t : Bool) (o : Result Fault ℕ) → o ≡ receiveValue b p a (take (e - a) (lent s a)) → b ≡ t → o ≡ receiveValue t p a (between s a e)
+value-lent s p a e b t o h q = h ∙ rw (lent-is s a, q)
 
 module _ (s : List ℕ) (f : Found) (at : ℕ) where
   pub stop : length s ≤ at → indexFrom s at f ≡ accepted f

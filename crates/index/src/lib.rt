@@ -79,7 +79,7 @@ fn scan(src: &[u8], kept: &mut [u64; PLACES], lens: &mut [u8; PLACES]) -> Scanne
         let place = catalogue::place_of(id);
         if place < PLACES {
             let met = is_marked(marks, place);
-            match value::receive(met, place, start, &src[start..end]) {
+            match value::receive(met, place, start, end - start, &src[start..]) {
                 Value::Fits(x) => {
                     kept[place] = x;
                     lens[place] = low((end - start) as u64);

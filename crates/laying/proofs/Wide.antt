@@ -18,10 +18,10 @@ use lib.Bits.{bitOr, or-shifted}
 use lib.Dec.{ltb, leb, eqb}
 use borrow.Author.Tests.{le-leb, lt-leb, leb-true, leb-false, ltb-true, ltb-false, lt-ltb, le-ltb}
 use Rattle.refusal.specs.Outcome.{pick, front}
-use Rattle.varint.specs.Number.{bound, bytesOf, form, tagOf, numberBytes}
+use Rattle.varint.specs.Number.{bound, form, tagOf, numberBytes}
 use Rattle.varint.proofs.Bytes.{four, tag-le, length-form}
 use Rattle.catalogue.specs.Catalogue.{parameter}
-use Rattle.words.specs.Words.{zeros}
+use Rattle.words.specs.Words.{zeros, bytesOf}
 use Rattle.words.proofs.Laws.{joined, zeros-are, zeros-replicate, zeros-append}
 use Rattle.wire.specs.Wire.{put, dueValue, dueNumber}
 use Rattle.laying.specs.Laying.{lay, numberRest, laidNumber, laidField, Open}

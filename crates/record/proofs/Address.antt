@@ -13,9 +13,8 @@ use lib.Dec.{eqb}
 use borrow.Author.Tests.{le-leb, leb-true, lt-ltb, ltb-true, eq-eqb, eqb-true, eqb-false}
 use Rattle.refusal.specs.Outcome.{pick, all}
 use Rattle.refusal.proofs.Laws.{all-at}
-use Rattle.varint.specs.Number.{valueFrom, bytesOf}
-use Rattle.varint.proofs.Bytes.{length-bytesOf, value-bytesOf}
-use Rattle.words.specs.Words.{zeros}
+use Rattle.words.proofs.Big.{length-bytesOf, value-bytesOf}
+use Rattle.words.specs.Words.{zeros, valueFrom, bytesOf}
 use Rattle.connection_id.specs.ConnectionId.{cidOf, cidBytes, formedCid}
 use Rattle.words.proofs.Laws.{zeros-are, zeros-append}
 use Rattle.connection_id.proofs.Laws.{cid-facts, cid-length, cid-of, cid-none, cid-read, cid-same}

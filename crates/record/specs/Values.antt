@@ -7,8 +7,8 @@ use mathlib.Core.Bool.{Bool, true, false, not}
 use lib.ListN.{getD, take, drop, replicate}
 use lib.Dec.{ltb, eqb}
 use Rattle.refusal.specs.Outcome.{Outcome, accepted, refused, pick}
-use Rattle.varint.specs.Number.{readNumber, numberBytes, valueFrom, bytesOf}
-use Rattle.words.specs.Words.{zeros}
+use Rattle.varint.specs.Number.{readNumber, numberBytes}
+use Rattle.words.specs.Words.{zeros, valueFrom, bytesOf}
 use Rattle.connection_id.specs.ConnectionId.{cidOf, cidBytes}
 use Rattle.record.specs.declared.TransportParameters.{TransportParameters}
 use Rattle.record.specs.declared.OptionalNumber.{OptionalNumber}

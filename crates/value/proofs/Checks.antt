@@ -1,5 +1,5 @@
 -- What the tests of the code mean for the definitions: a value of each kind, the kind of a place, a second copy. Assumes nothing.
-use Prim.Native.Nat.{ℕ, _+_, _/_, _%_, _^_, _≤_, _<_}
+use Prim.Native.Nat.{ℕ, zero, suc, _+_, _*_, _/_, _%_, _^_, _≤_, _<_}
 use mathlib.Core.Path.{_≡_, refl, ap, sym, _∙_}
 use mathlib.Core.List.{List, [], _∷_}
 use mathlib.Core.Bool.{Bool, true, false, _&&_, not}
@@ -7,18 +7,22 @@ use native.Mathlib.Omega.{arith}
 use native.Mathlib.Nat.{div-eq-of-lt, lt-of-lt-of-le}
 use lib.Pow.{pow-mono}
 use lib.ListN.{length, getD, take, List·getD-eq-default}
-use lib.Dec.{eqb, leb, ltb}
-use borrow.Author.Tests.{le-leb, lt-leb, eq-eqb, ne-eqb, eqb-true, eqb-false, leb-true, ltb-true, ltb-false}
+use lib.Seq.{length-take-le}
+use lib.Dec.{eqb, leb, ltb, leb·zero}
+use borrow.Author.Tests.{le-leb, lt-leb, eq-eqb, ne-eqb, eqb-true, eqb-false, leb-true, leb-false, ltb-true, ltb-false}
 use Rattle.refusal.specs.Outcome.{Result, accepted, refused, pick, all}
 use Rattle.refusal.proofs.Laws.{all-at}
-use Rattle.varint.specs.Number.{readNumber}
+use Rattle.varint.specs.Number.{readNumber, readWide}
+use Rattle.varint.proofs.Laws.{read-take}
 use Rattle.marks.specs.Mark.{marked}
 use Rattle.words.specs.Words.{zeros}
-use Rattle.catalogue.specs.Catalogue.{Kind, number, flag, cid, token, address, reserved, otherKinds, kinds, kindAt, fits, illegal, idLength}
-use Rattle.catalogue.proofs.Places.{below-at}
+use Rattle.catalogue.specs.Catalogue.{Kind, number, flag, cid, token, address, reserved, otherKinds, kinds, kindAt, fills, fits, illegal, idLength}
+use Rattle.catalogue.proofs.Places.{below, below-at}
+use Rattle.record.specs.Values.{value}
 use Rattle.front.specs.declared.Fault.{Fault}
 use Rattle.front.specs.declared.Fault.the-variants.{SecondCopy, Misfit, Illegal}
-use Rattle.value.specs.Value.{mayRepeat, keptOf, checkKind, checkValue, receiveValue}
+use Rattle.value.specs.Answer.{judged}
+use Rattle.value.specs.Value.{isSimple, mayRepeat, keptOf, checkKind, checkValue, receiveValue}
 
 -- A VALUE OF A KIND. Numbers
 module _ (a : ℕ) (v : List ℕ) where
@@ -102,51 +106,134 @@ coded token = refl
 coded address = refl
 coded reserved = refl
 
--- the kind that the tests find
-abbrev tested : ℕ → Kind
-tested p =
-    pick (marked 0x1047ff p) number
-    (pick (marked 0x70000 p) cid (pick (marked 0x82000 p) flag (pick (eqb p 12) token (pick (eqb p 15) address reserved))))
+-- whether a kind is another
+abbrev is : Kind → Kind → Bool
+is j k = eqb (code j) (code k)
+
+is-it : (j k : Kind) → is j k ≡ true → k ≡ j
+is-it j k e = sym (coded k) ∙ ap (λ n. getD (number ∷ flag ∷ cid ∷ token ∷ address ∷ reserved ∷ []) n reserved) (sym (eqb-true (code j) (code k) e)) ∙ coded j
+
+beyond : (p : ℕ) → 21 ≤ p → kindAt p ≡ reserved
+unfolding kindAt kinds otherKinds
+beyond p h = List·getD-eq-default kinds reserved {n = p} h
+
+-- a test of places that agrees with one of their kinds at each
+told : (t : ℕ → Bool) (f : Kind → Bool) → below 21 (λ p. eqb (pick (t p) 1 0) (pick (f (kindAt p)) 1 0)) ≡ true → f reserved ≡ false → ((p : ℕ) → 21 ≤ p → t p ≡ false)
+    → (p : ℕ) → t p ≡ f (kindAt p)
+told t f c r o p = go (ltb p 21) refl
+  where
+    same : (a b : Bool) → eqb (pick a 1 0) (pick b 1 0) ≡ true → a ≡ b
+    same true true e = refl
+    same true false e = let z : _≡_ {A = ℕ} 0 1 = cc in absurd (omega arith)
+    same false true e = let z : _≡_ {A = ℕ} 0 1 = cc in absurd (omega arith)
+    same false false e = refl
+
+    go : (b : Bool) → ltb p 21 ≡ b → t p ≡ f (kindAt p)
+    go true e = same (t p) (f (kindAt p)) (below-at 21 (λ p. eqb (pick (t p) 1 0) (pick (f (kindAt p)) 1 0)) c p (ltb-true p 21 e))
+    go false e = o p (ltb-false p 21 e) ∙ sym (ap f (beyond p (ltb-false p 21 e)) ∙ r)
 
 above : (m p : ℕ) → m < 2 ^ 21 → 21 ≤ p → marked m p ≡ false
 unfolding marked
 above m p h k = rw (div-eq-of-lt (lt-of-lt-of-le h (pow-mono k)))
 
-kind-tested : (p : ℕ) → kindAt p ≡ tested p
-unfolding kindAt kinds otherKinds
-kind-tested p = go (ltb p 21) refl
-  where
-    go : (b : Bool) → ltb p 21 ≡ b → kindAt p ≡ tested p
-    go true e =
-        let c : code (kindAt p) ≡ code (tested p) = eqb-true _ _ (unfold marked in below-at 21 (λ p. eqb (code (kindAt p)) (code (tested p))) refl p (ltb-true p 21 e)) in
-        sym (coded (kindAt p)) ∙ ap (λ n. getD (number ∷ flag ∷ cid ∷ token ∷ address ∷ reserved ∷ []) n reserved) c ∙ coded (tested p)
-    go false e =
-        let h = ltb-false p 21 e in
-        List·getD-eq-default kinds reserved {n = p} h
-        ∙ sym (rw (above 0x1047ff p (omega arith) h, above 0x70000 p (omega arith) h, above 0x82000 p (omega arith) h, ne-eqb p 12 (omega arith), ne-eqb p 15 (omega arith)))
-
 module _ (p : ℕ) where
+  number-told : marked 0x1047ff p ≡ is number (kindAt p)
+  unfolding kindAt kinds otherKinds marked
+  number-told = told (marked 0x1047ff) (is number) refl refl (λ p. above 0x1047ff p (omega arith)) p
+
+  cid-told : marked 0x70000 p ≡ is cid (kindAt p)
+  unfolding kindAt kinds otherKinds marked
+  cid-told = told (marked 0x70000) (is cid) refl refl (λ p. above 0x70000 p (omega arith)) p
+
+  flag-told : marked 0x82000 p ≡ is flag (kindAt p)
+  unfolding kindAt kinds otherKinds marked
+  flag-told = told (marked 0x82000) (is flag) refl refl (λ p. above 0x82000 p (omega arith)) p
+
+  token-told : eqb p 12 ≡ is token (kindAt p)
+  unfolding kindAt kinds otherKinds
+  token-told = told (λ p. eqb p 12) (is token) refl refl (λ p k. ne-eqb p 12 (omega arith)) p
+
+  address-told : eqb p 15 ≡ is address (kindAt p)
+  unfolding kindAt kinds otherKinds
+  address-told = told (λ p. eqb p 15) (is address) refl refl (λ p k. ne-eqb p 15 (omega arith)) p
+
+  pub simple-told : marked 0x1f77ff p ≡ isSimple (kindAt p)
+  unfolding kindAt kinds otherKinds marked
+  simple-told = told (marked 0x1f77ff) isSimple refl refl (λ p. above 0x1f77ff p (omega arith)) p
+
   pub number-at : marked 0x1047ff p ≡ true → kindAt p ≡ number
-  number-at a = kind-tested p ∙ rw a
+  number-at a = is-it number (kindAt p) (sym number-told ∙ a)
 
-  module _ (a : marked 0x1047ff p ≡ false) where
-    pub cid-at : marked 0x70000 p ≡ true → kindAt p ≡ cid
-    cid-at b = kind-tested p ∙ rw (a, b)
+  pub cid-at : marked 0x70000 p ≡ true → kindAt p ≡ cid
+  cid-at a = is-it cid (kindAt p) (sym cid-told ∙ a)
 
-    module _ (b : marked 0x70000 p ≡ false) where
-      pub flag-at : marked 0x82000 p ≡ true → kindAt p ≡ flag
-      flag-at c = kind-tested p ∙ rw (a, b, c)
+  pub flag-at : marked 0x82000 p ≡ true → kindAt p ≡ flag
+  flag-at a = is-it flag (kindAt p) (sym flag-told ∙ a)
 
-      module _ (c : marked 0x82000 p ≡ false) where
-        pub token-at : p ≡ 12 → kindAt p ≡ token
-        token-at d = kind-tested p ∙ rw (a, b, c, eq-eqb p 12 d)
+  pub token-at : p ≡ 12 → kindAt p ≡ token
+  token-at a = is-it token (kindAt p) (sym token-told ∙ eq-eqb p 12 a)
 
-        module _ (d : p ≡ 12 → ⊥) where
-          pub address-at : p ≡ 15 → kindAt p ≡ address
-          address-at e = kind-tested p ∙ rw (a, b, c, ne-eqb p 12 d, eq-eqb p 15 e)
+  pub address-at : p ≡ 15 → kindAt p ≡ address
+  address-at a = is-it address (kindAt p) (sym address-told ∙ eq-eqb p 15 a)
 
-          pub none-at : (p ≡ 15 → ⊥) → kindAt p ≡ reserved
-          none-at e = kind-tested p ∙ rw (a, b, c, ne-eqb p 12 d, ne-eqb p 15 e)
+  pub none-at : marked 0x1047ff p ≡ false → marked 0x70000 p ≡ false → marked 0x82000 p ≡ false → (p ≡ 12 → ⊥) → (p ≡ 15 → ⊥) → kindAt p ≡ reserved
+  none-at a b c d e = go (kindAt p) (sym number-told ∙ a) (sym cid-told ∙ b) (sym flag-told ∙ c) (sym token-told ∙ ne-eqb p 12 d) (sym address-told ∙ ne-eqb p 15 e)
+    where
+      go : (k : Kind) → is number k ≡ false → is cid k ≡ false → is flag k ≡ false → is token k ≡ false → is address k ≡ false → k ≡ reserved
+      go number a b c d e = let z : _≡_ {A = ℕ} 0 1 = cc in absurd (omega arith)
+      go cid a b c d e = let z : _≡_ {A = ℕ} 0 1 = cc in absurd (omega arith)
+      go flag a b c d e = let z : _≡_ {A = ℕ} 0 1 = cc in absurd (omega arith)
+      go token a b c d e = let z : _≡_ {A = ℕ} 0 1 = cc in absurd (omega arith)
+      go address a b c d e = let z : _≡_ {A = ℕ} 0 1 = cc in absurd (omega arith)
+      go reserved a b c d e = refl
+
+-- A VALUE TOLD BY ITS LENGTH: between the least and the greatest, of which a number's are its own
+exactly : (n l : ℕ) → (leb n l && leb l (n + 0)) ≡ eqb l n
+exactly n l = go (leb n l) refl (leb l (n + 0)) refl
+  where
+    go : (s : Bool) → leb n l ≡ s → (t : Bool) → leb l (n + 0) ≡ t → (s && t) ≡ eqb l n
+    go true e true f = sym (eq-eqb l n (omega (arith, leb-true n l e, leb-true l (n + 0) f)))
+    go true e false f = sym (ne-eqb l n (omega (arith, leb-false l (n + 0) f)))
+    go false e t f = sym (ne-eqb l n (omega (arith, leb-false n l e)))
+
+module _ (a len x n : ℕ) (rest : List ℕ) (room : 8 ≤ length rest) (within : len ≤ length rest) (e : accepted (x, n) ≡ readWide rest) where
+  long : length (take len rest) ≡ len
+  long = length-take-le len rest within
+
+  read : readNumber rest ≡ accepted (x, n)
+  read = sym (rw (le-leb 8 (length rest) room) at e)
+
+  number-wide : judged (leb n len && leb len (n + 0)) x ≡ checkKind number a (take len rest)
+  unfolding checkKind illegal fits keptOf
+  number-wide = rw (read-take len rest x n read, long, exactly n len) (go (leb n len) refl (eqb len n) refl)
+    where
+      go : (s : Bool) → leb n len ≡ s → (t : Bool) → eqb len n ≡ t
+          → judged t x ≡ pick {A = Result Fault ℕ} (fills len (pick s (accepted (x, n)) (refused 3))) (accepted (value (pick s (accepted (x, n)) (refused 3)))) (refused Misfit)
+      go true p true q = rw (eq-eqb n len (sym (eqb-true len n q)))
+      go true p false q = rw (ne-eqb n len (λ k. eqb-false len n q (sym k)))
+      go false p true q = absurd (omega (arith, leb-false n len p, eqb-true len n q))
+      go false p false q = refl
+
+  pub wide : (p i j t : ℕ) → isSimple (kindAt p) ≡ true → i ≡ pick (marked 0x1047ff p) 1 0 → j ≡ pick (marked 0x70000 p) 1 0 → t ≡ pick (eqb p 12) 1 0
+      → judged (leb (getD (16 * t ∷ n ∷ []) i 0) len && leb len (getD (16 * t ∷ n ∷ []) i 0 + 20 * j)) (getD (a ∷ x ∷ []) i 0) ≡ checkValue p a (take len rest)
+  unfolding illegal fits keptOf
+  wide p i j t s ei ej et = rw (ei, ej, et, number-told p, cid-told p, token-told p) (go (kindAt p) s)
+    where
+      go : (k : Kind) → isSimple k ≡ true
+          → judged (leb (getD (16 * pick (is token k) 1 0 ∷ n ∷ []) (pick (is number k) 1 0) 0) len && leb len (getD (16 * pick (is token k) 1 0 ∷ n ∷ []) (pick (is number k) 1 0) 0 + 20 * pick (is cid k) 1 0))
+          (getD (a ∷ x ∷ []) (pick (is number k) 1 0) 0) ≡ checkKind k a (take len rest)
+      go number s = number-wide
+      go flag s = by-length a (take len rest) flag (leb 0 len && leb len 0) refl refl (exactly 0 len ∙ rw long)
+      go cid s = by-length a (take len rest) cid (leb 0 len && leb len 20) refl refl (rw (long, leb·zero len))
+      go token s = by-length a (take len rest) token (leb 16 len && leb len 16) refl refl (exactly 16 len ∙ rw long)
+      go address s = let z : _≡_ {A = ℕ} 0 1 = cc in absurd (omega arith)
+      go reserved s = let z : _≡_ {A = ℕ} 0 1 = cc in absurd (omega arith)
+
+-- one of two numbers, by 0 or 1
+pub one-of : (a b i : ℕ) → i ≤ 1 → getD (a ∷ b ∷ []) i 0 ≤ a + b
+one-of a b zero h = omega arith
+one-of a b (suc zero) h = omega arith
+one-of a b (suc (suc i)) h = absurd (omega arith)
 
 -- A VALUE FOR A PLACE
 pub for-place : (p : ℕ) (k : Kind) (a : ℕ) (v : List ℕ) (o : Result Fault ℕ) → kindAt p ≡ k → o ≡ checkKind k a v → o ≡ checkValue p a v

@@ -2,7 +2,7 @@
 -- these.
 use Prim.Native.Nat.{ℕ}
 use mathlib.Core.List.{List}
-use mathlib.Core.Bool.{Bool, _&&_, _||_, not}
+use mathlib.Core.Bool.{Bool, true, false, _&&_, _||_, not}
 use lib.Dec.{eqb}
 use Rattle.refusal.specs.Outcome.{Result, accepted, refused, pick}
 use Rattle.varint.specs.Number.{readNumber}
@@ -14,6 +14,15 @@ use Rattle.front.specs.declared.Fault.the-variants.{SecondCopy, Misfit, Illegal
 -- grease_quic_bit may repeat, and the last min_ack_delay counts
 unfoldable pub mayRepeat : ℕ → Bool
 mayRepeat p = eqb p 19 || eqb p 20
+
+-- a kind whose values are told by their length and their first byte
+abbrev pub isSimple : Kind → Bool
+isSimple number = true
+isSimple flag = true
+isSimple cid = true
+isSimple token = true
+isSimple address = false
+isSimple reserved = false
 
 -- what is kept: the number that it holds, or where it stands
 unfoldable pub keptOf : Kind → ℕ → List ℕ → ℕ

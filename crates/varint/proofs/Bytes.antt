@@ -1,46 +1,19 @@
--- Laws of big-endian bytes at every width, and of the tag. Assumes nothing.
+-- Laws of the tag, and of the forms at every width. Assumes nothing.
 use Prim.Native.Nat.{ℕ, zero, suc, _+_, _-_, _*_, _/_, _%_, _^_, _≤_, _<_}
 use mathlib.Core.Path.{_≡_, refl, ap, sym, _∙_}
 use mathlib.Core.List.{List, [], _∷_}
-use native.Mathlib.Nat.{pow-succ', add-mul, mul-assoc, add-assoc, mod-eq-of-lt, one-le-pow, div-lt-iff-lt-mul}
+use native.Mathlib.Nat.{mod-eq-of-lt, div-lt-iff-lt-mul}
 use native.Mathlib.Omega.{arith}
 use lib.ListN.{length, getD, take, drop}
-use lib.Seq.{sets, sets-eq, drop-cons}
-use lib.Arith.{mod-mul}
+use lib.Seq.{sets, sets-eq}
 use lib.Dec.{leb}
 use lib.Bits.{bitOr, or-shifted}
 use borrow.Author.Tests.{ltb-true, ltb-false, lt-ltb, le-ltb, le-leb, lt-leb}
 use Rattle.refusal.specs.Outcome.{accepted, refused, pick, front}
 use Rattle.refusal.proofs.Laws.{pick-cases}
-use Rattle.varint.specs.Number.{valueFrom, bytesOf, tagOf, form, numberBytes, readNumber}
-
-pub pow-pos : (n : ℕ) → 0 < 256 ^ n
-pow-pos n = one-le-pow n 256 (omega arith)
-
-pub length-bytesOf : (n v : ℕ) → length (bytesOf n v) ≡ n
-length-bytesOf zero v = refl
-length-bytesOf (suc n) v = ap suc (length-bytesOf n v)
-
--- the low n bytes of v, read after a
-pub value-bytesOf : (n a v : ℕ) → valueFrom a (bytesOf n v) ≡ a * 256 ^ n + v % 256 ^ n
-value-bytesOf zero a v = omega arith
-value-bytesOf (suc n) a v =
-    rw (value-bytesOf n, pow-succ', mod-mul v {m = 256} (omega arith) (pow-pos n), add-mul, mul-assoc, add-assoc)
-
-pub value-lt : (bs : List ℕ) (a c : ℕ) → ((i : ℕ) → getD bs i 0 < 256) → a < c → valueFrom a bs < c * 256 ^ length bs
-value-lt [] a c hs h = omega arith
-value-lt (b ∷ bs) a c hs h =
-    rw (pow-succ', ← mul-assoc) (value-lt bs (a * 256 + b) (c * 256) (λ i. hs (suc i)) (omega (arith, hs 0)))
-
--- n bytes of s from i on, one after another
-abbrev pub gathered : ℕ → ℕ → ℕ → List ℕ → ℕ
-gathered zero i a s = a
-gathered (suc n) i a s = gathered n (suc i) (a * 256 + getD s i 0) s
-
-pub value-gathered : (n i a : ℕ) (s : List ℕ) → i + n ≤ length s → valueFrom a (take n (drop i s)) ≡ gathered n i a s
-value-gathered zero i a s h = refl
-value-gathered (suc n) i a s h =
-    rw (drop-cons s i 0 (omega arith)) (value-gathered n (suc i) (a * 256 + getD s i 0) s (omega arith))
+use Rattle.varint.specs.Number.{tagOf, form, numberBytes, readNumber}
+use Rattle.words.specs.Words.{valueFrom}
+use Rattle.words.proofs.Big.{pow-pos, length-bytesOf, gathered, value-gathered}
 
 -- a byte with the tag k
 pub tagged : (k x : ℕ) → k ≤ 3 → x < 64 → bitOr (k * 64) x % 256 ≡ k * 64 + x

@@ -1,5 +1,7 @@
--- Two laws of the definitions of `specs/Number.antt`. Assumes nothing.
+-- Laws of the definitions of `specs/Number.antt`. Assumes nothing.
 --     read-number-bytes     what was written is read back, whatever follows it
+--     number-append         more bytes change nothing
+--     read-take             nor do fewer, as long as the number is there
 --     read-bounds           what is read is below 2 ^ 62, lies within the bytes, and is no shorter than the shortest form
 use Prim.Native.Nat.{ℕ, zero, suc, _+_, _-_, _*_, _/_, _%_, _^_, _≤_, _<_}
 use mathlib.Core.Path.{_≡_, refl, ap}
@@ -7,15 +9,18 @@ use mathlib.Core.List.{List, [], _∷_, _++_}
 use mathlib.Core.Bool.{Bool, true, false}
 use native.Mathlib.Nat.{div-add-mod'}
 use native.Mathlib.Omega.{arith}
-use lib.ListN.{length, getD, take, length-append}
-use lib.Seq.{take-at, length-take-le}
+use lib.ListN.{length, getD, take, length-append, length-take}
+use lib.Seq.{take-at, take-take, take-append-le, length-take-le}
 use lib.Pow.{pow-mono, pow-pos}
 use lib.Arith.{digits-div, digits-mod}
 use lib.Dec.{leb}
-use borrow.Author.Tests.{le-leb, leb-true}
-use Rattle.varint.specs.Number.{valueFrom, bytesOf, tagOf, form, numberBytes, readNumber}
+use borrow.Author.Tests.{le-leb, lt-leb, leb-true, leb-false}
+use Rattle.varint.specs.Number.{tagOf, form, numberBytes, readNumber}
+use Rattle.words.specs.Words.{valueFrom, bytesOf}
 use Rattle.refusal.specs.Outcome.{Outcome, accepted, refused, pick}
-use Rattle.varint.proofs.Bytes.{length-bytesOf, value-bytesOf, value-lt, high-lt, four, width-range, length-form, tag-le, tag-room, tag-least}
+use Rattle.refusal.proofs.Laws.{picked}
+use Rattle.varint.proofs.Bytes.{high-lt, four, width-range, length-form, tag-le, tag-room, tag-least}
+use Rattle.words.proofs.Big.{length-bytesOf, value-bytesOf, value-lt}
 
 -- at every width that has room, longer than needed or not
 pub read-form : (k v : ℕ) (rest : List ℕ) → k ≤ 3 → v < 64 * 256 ^ (2 ^ k - 1) → readNumber (form k v ++ rest) ≡ accepted (v, 2 ^ k)
@@ -51,7 +56,45 @@ read-within (b ∷ bs) v n e = go _ refl e
         let j : 2 ^ (b / 64) ≡ n = ap (λ r. r .1) q in
         omega (arith, leb-true, pow-pos (b / 64))
 
-bytes-take : (n : ℕ) (bs : List ℕ) → ((i : ℕ) → getD bs i 0 < 256) → (i : ℕ) → getD (take n bs) i 0 < 256
+pub number-append : (bs cs : List ℕ) (a : ℕ × ℕ) → readNumber bs ≡ accepted a → readNumber (bs ++ cs) ≡ accepted a
+unfolding readNumber
+number-append [] cs a e = let z : _≡_ {A = ℕ} 0 1 = cc in absurd (omega arith)
+number-append (b ∷ bs) cs a e =
+    picked _ _ a 3 e λ t q.
+    let h : 2 ^ (b / 64) ≤ suc (length bs) = leb-true _ _ t in
+    let h′ : 2 ^ (b / 64) ≤ suc (length (bs ++ cs)) = simp length-append (omega arith) in
+    let k : 2 ^ (b / 64) - 1 ≤ length bs = omega arith in
+    rw (le-leb _ _ h′, take-append-le _ bs cs k) (ap accepted q)
+
+-- of the first m bytes as of all, unless they are too few
+pub read-take : (m : ℕ) (s : List ℕ) (x n : ℕ) → readNumber s ≡ accepted (x, n) → readNumber (take m s) ≡ pick (leb n m) (accepted (x, n)) (refused 3)
+unfolding readNumber
+read-take zero s x n e = rw (lt-leb n 0 (read-within s x n e .0))
+read-take (suc m) [] x n e = let z : _≡_ {A = ℕ} 0 1 = cc in absurd (omega arith)
+read-take (suc m) (b ∷ bs) x n e =
+    picked _ _ (x, n) 3 e λ t q.
+    let h : 2 ^ (b / 64) ≤ suc (length bs) = leb-true _ _ t in
+    let l = length-take m bs in
+    let j : 2 ^ (b / 64) ≡ n = ap (λ r. r .1) q in
+    go (2 ^ (b / 64)) j h q
+  where
+    go : (w : ℕ) → w ≡ n → w ≤ suc (length bs) → _≡_ {A = ℕ × ℕ} (valueFrom (b % 64) (take (w - 1) bs), w) (x, n)
+        → pick {A = Outcome (ℕ × ℕ)} (leb w (suc (length (take m bs)))) (accepted (valueFrom (b % 64) (take (w - 1) (take m bs)), w)) (refused 3)
+        ≡ pick (leb n (suc m)) (accepted (x, n)) (refused 3)
+    go w j h q = on (leb n (suc m)) refl
+      where
+        on : (t : Bool) → leb n (suc m) ≡ t
+            → pick {A = Outcome (ℕ × ℕ)} (leb w (suc (length (take m bs)))) (accepted (valueFrom (b % 64) (take (w - 1) (take m bs)), w)) (refused 3)
+            ≡ pick t (accepted (x, n)) (refused 3)
+        on true e =
+            let i : w ≤ suc (length (take m bs)) = omega (arith, length-take m bs, leb-true n (suc m) e) in
+            let k : w - 1 ≤ m = omega (arith, leb-true n (suc m) e) in
+            rw (le-leb _ _ i, take-take _ m bs k) (ap accepted q)
+        on false e =
+            let i : suc (length (take m bs)) < w = omega (arith, length-take m bs, leb-false n (suc m) e) in
+            rw (lt-leb _ _ i)
+
+pub bytes-take : (n : ℕ) (bs : List ℕ) → ((i : ℕ) → getD bs i 0 < 256) → (i : ℕ) → getD (take n bs) i 0 < 256
 bytes-take zero bs h i = omega arith
 bytes-take (suc n) [] h i = omega arith
 bytes-take (suc n) (b ∷ bs) h zero = h 0

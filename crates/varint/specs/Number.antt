@@ -1,23 +1,14 @@
 -- Variable-length integers (RFC 9000 section 16), over lists of bytes as numbers.
-use Prim.Native.Nat.{ℕ, zero, suc, _+_, _-_, _*_, _/_, _%_, _^_}
+use Prim.Native.Nat.{ℕ, _+_, _-_, _*_, _/_, _%_, _^_}
 use mathlib.Core.List.{List, [], _∷_}
 use lib.ListN.{length, take}
 use lib.Dec.{ltb, leb}
 use Rattle.refusal.specs.Outcome.{Outcome, accepted, refused, pick, store}
+use Rattle.words.specs.Words.{valueFrom, bytesOf}
 
 -- numbers that the wire form carries are below this
 abbrev pub bound : ℕ
 bound = 2 ^ 62
-
--- the number that the bytes make, most significant first, after the number a
-abbrev pub valueFrom : ℕ → List ℕ → ℕ
-valueFrom a [] = a
-valueFrom a (b ∷ bs) = valueFrom (a * 256 + b) bs
-
--- the low n bytes of v, most significant first
-abbrev pub bytesOf : ℕ → ℕ → List ℕ
-bytesOf zero v = []
-bytesOf (suc n) v = v / 256 ^ n % 256 ∷ bytesOf n v
 
 -- the two most significant bits of the first byte are the base-2 logarithm of the length in bytes; the number is on the remaining
 -- bits, in network byte order. 3 if no byte is there, or fewer than the first calls for; else the value and its byte count
@@ -27,6 +18,10 @@ readNumber (b ∷ bs) =
     pick (leb (2 ^ (b / 64)) (length (b ∷ bs)))
     (accepted (valueFrom (b % 64) (take (2 ^ (b / 64) - 1) bs), 2 ^ (b / 64)))
     (refused 3)
+
+-- the same of eight bytes or more, which no number outruns; 0 and 0 of fewer
+abbrev pub readWide : List ℕ → Outcome (ℕ × ℕ)
+readWide s = pick (leb 8 (length s)) (readNumber s) (accepted (0, 0))
 
 -- v on the bits that tag k leaves, in network byte order
 unfoldable pub form : ℕ → ℕ → List ℕ

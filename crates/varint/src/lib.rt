@@ -2,12 +2,14 @@
 ghost use mathlib.Core.Path.{_≡_};
 ghost use Prim.Native.Nat.{_+_, _*_, _/_, _%_, _^_, _<_, _≤_};
 ghost use lib.ListN.{length, getD};
-ghost use Rattle.refusal.specs.Outcome.{front};
-ghost use Rattle.varint.specs.Number.{form, numberBytes, readNumber, writeNumber, convertNumber, sizeNumber};
+ghost use Rattle.refusal.specs.Outcome.{accepted, front};
+ghost use Rattle.words.specs.Words.{bytesOf};
+ghost use Rattle.varint.specs.Number.{form, numberBytes, readNumber, readWide, writeNumber, convertNumber, sizeNumber};
 ghost use Rattle.varint.specs.Answer.{convertOutcome, readOutcome};
 ghost use Rattle.refusal.specs.Answer.{countOutcome};
 use refusal::Counted;
 use refusal::Refusal;
+use words::big8;
 use words::low;
 use words::wide;
 use words::word2;
@@ -19,6 +21,12 @@ pub struct VarInt(pub u64);
 pub enum Converted {
     Number(VarInt),
     Refused(Refusal),
+}
+
+// What reading of eight bytes or more gives.
+pub struct Wide {
+    pub value: u64,
+    pub count: usize,
 }
 
 // What reading gives: the value and how many bytes it took.
@@ -81,6 +89,16 @@ impl VarInt {
         decode_longer(tag, src)
     }
 
+    // The same where eight bytes are there, with no branch on the number's width; 0 and 0 if there are fewer.
+    pub fn decode_wide(src: &[u8]) -> Wide
+        ensures { λ r. ⌜ (accepted (r .value, r .count) ≡ readWide (now (src .entry))) × (r .count ≤ 8) ⌝ }
+    {
+        if src.len() < VarInt::MAX_SIZE {
+            return Wide { value: 0, count: 0 };
+        }
+        wide_of(big8(src))
+    }
+
     // Writes the shortest form to the front of `out`.
     pub fn encode(self, out: &mut [u8]) -> Counted
         ensures { λ r. ⌜ (countOutcome r, now (out .exit)) ≡ writeNumber (self .0) (now (out .entry)) ⌝ }
@@ -108,6 +126,18 @@ fn size_of(x: u64) -> usize
         4
     } else {
         VarInt::MAX_SIZE
+    }
+}
+
+// The number at the front of eight bytes, which make `word`.
+fn wide_of(word: u64) -> Wide
+    ensures { λ r. ⌜ (accepted (r .value, r .count) ≡ readNumber (bytesOf 8 word)) × (r .count ≤ 8) ⌝ }
+{
+    let tag = (word >> 62) as u32;
+    let bits = 8u32 << tag;
+    Wide {
+        value: (word & VarInt::MAX.0) >> (64 - bits),
+        count: 1usize << tag,
     }
 }
 

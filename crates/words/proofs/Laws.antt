@@ -26,7 +26,7 @@ use native.Mathlib.Nat.{mul-comm, pow-le-pow-right, one-le-pow, pow-succ', mul-a
 use lib.Pow.{pow-add, shr-shr}
 use lib.Arith.{digits-lt}
 use lib.Bits.{or-shifted}
-use Rattle.words.specs.Words.{every, zeros, wordOf, bytewise, Word, elements}
+use Rattle.words.specs.Words.{every, zeros, sameBytes, wordOf, bytewise, Word, WordsOf20, elements}
 
 pub zeros-are : (l : List ℕ) → zeros l ≡ true → l ≡ replicate (length l) 0
 zeros-are [] h = refl
@@ -214,3 +214,52 @@ whole-array n s h = elements-all n 0 s (omega arith)
 
 pub zero-word : (a : List ℕ) (u : ℕ) → Word a u → eqb u 0 ≡ zeros a
 zero-word a u x = rw (x .is) (sym (zeros-word 0 a (x .low) ∙ ap (λ y. eqb y 0) (div-one (wordOf a))))
+
+-- two lists of words
+pub same-append : (a b c d : List ℕ) → length a ≡ length b → sameBytes (a ++ c) (b ++ d) ≡ (sameBytes a b && sameBytes c d)
+same-append [] [] c d h = refl
+same-append [] (y ∷ b) c d h = absurd (omega arith)
+same-append (x ∷ a) [] c d h = absurd (omega arith)
+same-append (x ∷ a) (y ∷ b) c d h = rw (same-append a b c d (omega arith)) (and-assoc (eqb x y) (sameBytes a b) (sameBytes c d))
+
+same-bytes : (a b : List ℕ) → length a ≡ length b → bytewise a ≡ true → bytewise b ≡ true → eqb (wordOf a) (wordOf b) ≡ sameBytes a b
+same-bytes [] [] h p q = refl
+same-bytes [] (y ∷ b) h p q = absurd (omega arith)
+same-bytes (x ∷ a) [] h p q = absurd (omega arith)
+same-bytes (x ∷ a) (y ∷ b) h p q = go (ltb x 256) (ltb y 256) refl refl p q (same-bytes a b (omega arith))
+  where
+    both : (v w : ℕ) → x < 256 → y < 256 → eqb (x + 256 * v) (y + 256 * w) ≡ (eqb x y && eqb v w)
+    both v w hx hy = on (eqb x y) refl (eqb v w) refl
+      where
+        on : (s : Bool) → eqb x y ≡ s → (t : Bool) → eqb v w ≡ t → eqb (x + 256 * v) (y + 256 * w) ≡ (s && t)
+        on true e true f = eq-eqb (x + 256 * v) (y + 256 * w) (omega (arith, eqb-true x y e, eqb-true v w f))
+        on true e false f = ne-eqb _ _ (λ (n : x + 256 * v ≡ y + 256 * w). eqb-false v w f (omega (arith, eqb-true x y e)))
+        on false e t f = ne-eqb _ _ (λ (n : x + 256 * v ≡ y + 256 * w). eqb-false x y e (omega (arith, hx, hy)))
+
+    go : (s t : Bool) → ltb x 256 ≡ s → ltb y 256 ≡ t → (s && bytewise a) ≡ true → (t && bytewise b) ≡ true
+        → (bytewise a ≡ true → bytewise b ≡ true → eqb (wordOf a) (wordOf b) ≡ sameBytes a b)
+        → eqb (x + 256 * wordOf a) (y + 256 * wordOf b) ≡ (eqb x y && sameBytes a b)
+    go true true e f p q ih = both (wordOf a) (wordOf b) (ltb-true x 256 e) (ltb-true y 256 f) ∙ rw (ih p q)
+    go true false e f p q ih = let z : _≡_ {A = ℕ} 0 1 = cc in absurd (omega arith)
+    go false t e f p q ih = let z : _≡_ {A = ℕ} 0 1 = cc in absurd (omega arith)
+
+same-word : (a b : List ℕ) (u v : ℕ) → length a ≡ length b → Word a u → Word b v → eqb u v ≡ sameBytes a b
+same-word a b u v h x y = rw (x .is, y .is) (same-bytes a b h (x .low) (y .low))
+
+-- the words of 20 bytes
+module _ (s : List ℕ) (u v w : ℕ) (x : WordsOf20 s u v w) where
+  pub zero-20 : (n : ℕ) (r : Bool) → r ≡ eqb ((u + 2 ^ 64 * (v + 2 ^ 64 * w)) / 2 ^ (8 * n)) 0 → r ≡ zeros (drop n (elements 20 0 s))
+  unfolding elements
+  zero-20 n r e = zero-words n u v w r (elements 8 0 s) (elements 8 8 s) (elements 4 16 s) refl refl (x .first) (x .second) (x .third) e
+
+  pub same-20 : (t : List ℕ) (u′ v′ w′ : ℕ) → WordsOf20 t u′ v′ w′ → (eqb u u′ && (eqb v v′ && eqb w w′)) ≡ sameBytes (elements 20 0 s) (elements 20 0 t)
+  unfolding elements
+  same-20 t u′ v′ w′ y =
+      rw (
+        same-word (elements 8 0 s) (elements 8 0 t) u u′ refl (x .first) (y .first),
+        same-word (elements 8 8 s) (elements 8 8 t) v v′ refl (x .second) (y .second),
+        same-word (elements 4 16 s) (elements 4 16 t) w w′ refl (x .third) (y .third),
+      )
+      (sym
+      (same-append (elements 8 0 s) (elements 8 0 t) (elements 12 8 s) (elements 12 8 t) refl
+      ∙ ap (λ r. sameBytes (elements 8 0 s) (elements 8 0 t) && r) (same-append (elements 8 8 s) (elements 8 8 t) (elements 4 16 s) (elements 4 16 t) refl)))

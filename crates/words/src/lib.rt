@@ -2,10 +2,11 @@
 ghost use mathlib.Core.Path.{_≡_};
 ghost use mathlib.Core.List.{[], _∷_};
 ghost use mathlib.Core.Bool.{_&&_, _||_};
-ghost use Prim.Native.Nat.{_+_, _*_, _/_, _%_, _^_, _<_, min};
-ghost use lib.Dec.{eqb};
-ghost use lib.ListN.{drop};
-ghost use Rattle.words.specs.Words.{zeros, Word, elements};
+ghost use Prim.Native.Nat.{_+_, _*_, _/_, _%_, _^_, _≤_, _<_, min};
+ghost use lib.Dec.{eqb, leb};
+ghost use lib.ListN.{length, take, drop};
+ghost use Rattle.refusal.specs.Outcome.{pick};
+ghost use Rattle.words.specs.Words.{zeros, sameBytes, Word, WordsOf20, elements, valueFrom, bytesOf, wordOf};
 
 pub fn and(a: bool, b: bool) -> bool
     ensures { λ r. ⌜ r ≡ (a && b) ⌝ }
@@ -64,6 +65,56 @@ pub fn word8(a: u8, b: u8, c: u8, d: u8, e: u8, f: u8, g: u8, h: u8) -> u64
     (word4(e, f, g, h) << 32) | word4(a, b, c, d)
 }
 
+// The first eight bytes as a number, low byte first. A function of its own: so the compiler makes one load of them.
+fn front8(v: &[u8]) -> u64
+    requires { ⌜ 8 ≤ length (now v) ⌝ }
+    ensures { λ r. ⌜ Word (elements 8 0 (now (v .entry))) r ⌝ }
+{
+    word8(v[0], v[1], v[2], v[3], v[4], v[5], v[6], v[7])
+}
+
+// The number of the same bytes in the other order.
+fn swapped(w: u64) -> u64
+    ensures { λ r. ⌜ r ≡ wordOf (bytesOf 8 w) ⌝ }
+{
+    word8(
+        low(w >> 56),
+        low(w >> 48),
+        low(w >> 40),
+        low(w >> 32),
+        low(w >> 24),
+        low(w >> 16),
+        low(w >> 8),
+        low(w),
+    )
+}
+
+// The first eight bytes as a number, high byte first; 0 if there are fewer.
+pub fn big8(v: &[u8]) -> u64
+    ensures { λ r. ⌜ r ≡ pick (leb 8 (length (now (v .entry)))) (valueFrom 0 (take 8 (now (v .entry)))) 0 ⌝ }
+{
+    if v.len() < 8 {
+        return 0;
+    }
+    swapped(front8(v))
+}
+
+// The eight bytes of a number, high byte first.
+pub fn bytes8(x: u64) -> [u8; 8]
+    ensures { λ r. ⌜ r ≡ bytesOf 8 x ⌝ }
+{
+    [
+        low(x >> 56),
+        low(x >> 48),
+        low(x >> 40),
+        low(x >> 32),
+        low(x >> 24),
+        low(x >> 16),
+        low(x >> 8),
+        low(x),
+    ]
+}
+
 // Whether 24 bytes, eight to a word, are zero from byte `n` on.
 pub fn zero_from(u: u64, v: u64, w: u64, n: usize) -> bool
     ensures { λ r. ⌜ r ≡ eqb ((u + 2 ^ 64 * (v + 2 ^ 64 * w)) / 2 ^ (8 * n)) 0 ⌝ }
@@ -83,14 +134,37 @@ pub fn zero_from(u: u64, v: u64, w: u64, n: usize) -> bool
     true
 }
 
-// Whether the bytes of an array are zero from byte `n` on.
-pub fn zero20_from(b: &[u8; 20], n: usize) -> bool
-    ensures { λ r. ⌜ r ≡ zeros (drop n (elements 20 0 (now (b .entry)))) ⌝ }
+// 20 bytes as words.
+struct ThreeWords {
+    u: u64,
+    v: u64,
+    w: u64,
+}
+
+fn words20(b: &[u8; 20]) -> ThreeWords
+    ensures { λ r. ⌜ WordsOf20 (now (b .entry)) (r .u) (r .v) (r .w) ⌝ }
 {
     let u = word8(b[0], b[1], b[2], b[3], b[4], b[5], b[6], b[7]);
     let v = word8(b[8], b[9], b[10], b[11], b[12], b[13], b[14], b[15]);
     let w = word4(b[16], b[17], b[18], b[19]);
-    zero_from(u, v, w, n)
+    ThreeWords { u, v, w }
+}
+
+// Whether two arrays hold the same bytes.
+pub fn same20(a: &[u8; 20], b: &[u8; 20]) -> bool
+    ensures { λ r. ⌜ r ≡ sameBytes (elements 20 0 (now (a .entry))) (elements 20 0 (now (b .entry))) ⌝ }
+{
+    let x = words20(a);
+    let y = words20(b);
+    and(x.u == y.u, and(x.v == y.v, x.w == y.w))
+}
+
+// Whether the bytes of an array are zero from byte `n` on.
+pub fn zero20_from(b: &[u8; 20], n: usize) -> bool
+    ensures { λ r. ⌜ r ≡ zeros (drop n (elements 20 0 (now (b .entry)))) ⌝ }
+{
+    let x = words20(b);
+    zero_from(x.u, x.v, x.w, n)
 }
 
 pub fn zero16_from(b: &[u8; 16], n: usize) -> bool

@@ -13,7 +13,7 @@ use borrow.Author.Tests.{eqb-true, leb-true, ltb-true, le-leb, lt-ltb}
 use Rattle.words.specs.Words.{zeros}
 use Rattle.refusal.specs.Outcome.{Outcome, accepted, refused, front}
 use Rattle.refusal.proofs.Laws.{all-at}
-use Rattle.varint.specs.Number.{bytesOf}
+use Rattle.words.specs.Words.{bytesOf}
 use Rattle.connection_id.specs.declared.ConnectionId.{ConnectionId}
 use Rattle.connection_id.specs.ConnectionId.{cidBytes, cidWire, formedCid, writeCid}
 use Rattle.connection_id.proofs.Laws.{cid-facts, cid-length}

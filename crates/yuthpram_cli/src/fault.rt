@@ -112,7 +112,13 @@ fn locate(side: Side, src: &[u8]) -> Culprit {
         }
         let place = catalogue::place_of(id);
         if place < PLACES {
-            let v = value::receive(is_marked(met, place), place, start, &src[start..end]);
+            let v = value::receive(
+                is_marked(met, place),
+                place,
+                start,
+                end - start,
+                &src[start..],
+            );
             if let Value::Wrong(fault) = v {
                 return Culprit { at, id, fault };
             }

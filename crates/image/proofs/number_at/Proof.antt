@@ -7,24 +7,12 @@ use Rattle.image.proofs.number_at.Statement.{statement}
 use Rattle.image.proofs.number_at.Tie as tie
 
 returns : tie.Need-returns
-returns c = c .word8 .ensures .is ∙ number-eight (c .before .before .before .before .before .before .before .before .before .before .args .s .now) (c .before .before .before .before .before .before .before .before .before .before .args .at) (omega arith)
+returns c = c .big8 .ensures ∙ number-eight (c .before .before .before .args .s .now) (c .before .before .before .args .at) (omega arith)
 
 pub number-at-spec : {M : Type 1} → statement M
 number-at-spec =
     tie.close
     (tie.spec
-    (λ c. search needs)
-    (λ c. search needs)
-    (λ c. search needs)
-    (λ c. search needs)
-    (λ c. search needs)
-    (λ c. search needs)
-    (λ c. search needs)
-    (λ c. search needs)
-    (λ c. search needs)
-    (λ c. search needs)
-    (λ c. search needs)
-    (λ c. search needs)
     (λ c. search needs)
     (λ c. search needs)
     (λ c. search needs)

@@ -4,7 +4,7 @@ use native.Mathlib.Omega.{arith}
 use mathlib.Core.Path.{_≡_, refl, ap, _∙_}
 use lib.ListN.{length, take}
 use lib.Seq.{sets, take-all}
-use Rattle.image.specs.Image.{numbersImage}
+use Rattle.image.specs.Image.{eightBytes, numbersImage}
 use Rattle.image.proofs.Stores.{numbers-more}
 use borrow.Author.Needs.{needs}
 use Rattle.image.proofs.put_numbers.Statement.{statement}
@@ -21,6 +21,7 @@ loop-holds : tie.Need-loop-holds Inv-loop μ-loop
 loop-holds c = (omega arith, c .before .pre .0, refl, refl)
 
 loop-again : tie.Need-loop-again Inv-loop μ-loop
+unfolding eightBytes
 loop-again c =
     let l = c .before .before .before .before .before .before .before .before .loop in
     let a = c .before .before .before .before .before .before .before .before .before .before .args in

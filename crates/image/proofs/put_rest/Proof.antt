@@ -4,7 +4,7 @@ use mathlib.Core.Path.{_≡_, refl, _∙_}
 use lib.ListN.{length}
 use Rattle.image.proofs.Places.{within}
 use Rattle.image.proofs.Stores.{behind, done, laid, eight}
-use Rattle.image.specs.Image.{restParts}
+use Rattle.image.specs.Image.{eightBytes, restParts}
 use borrow.Author.Needs.{needs}
 use Rattle.image.proofs.put_rest.Statement.{statement}
 use Rattle.image.proofs.put_rest.Tie as tie
@@ -19,7 +19,7 @@ put-behind-requires-3 : tie.Need-put-behind-requires-3
 put-behind-requires-3 c κs = within 282 (long (c .before .before .before .before .before .before .before .before .before .before .before .before .before .before .before .before .before .before) .1) (c .before .before .before .before .before .put-behind2 .kept .1 .1 .1 .0 ∙ c .before .before .before .before .before .before .before .before .before .before .put-behind .kept .1 .1 .1 .0) (c .before .before .before .before .before .before .before .before .before .before .before .before .before .before .before .before .before .before .pre) tt
 
 returns : tie.Need-returns
-unfolding restParts
+unfolding restParts eightBytes
 returns c =
     let a = c .before .before .before .before .before .before .before .before .before .before .before .before .before .before .before .before .before .before .before .before .before .args in
     let l = long (c .before .before .before .before .before .before .before .before .before .before .before .before .before .before .before .before .before .before .before .before .before) in

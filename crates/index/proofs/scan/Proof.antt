@@ -10,9 +10,8 @@ use Rattle.front.specs.Answer.{parameterOutcome}
 use Rattle.front.specs.Parameter.{located}
 use Rattle.front.proofs.Position.{Within, within}
 use Rattle.value.specs.Answer.{valueOutcome}
-use Rattle.value.specs.Value.{receiveValue}
-use Rattle.index.specs.Index.{nothing, keep, between, indexFrom}
-use Rattle.index.proofs.Turn.{stop, cut-off, passed, faulty, taken}
+use Rattle.index.specs.Index.{nothing, keep, indexFrom}
+use Rattle.index.proofs.Turn.{value-lent, stop, cut-off, passed, faulty, taken}
 use Rattle.index.proofs.Sound.{between-length}
 use borrow.Author.Needs.{needs}
 use Rattle.index.proofs.scan.Statement.{statement}
@@ -48,6 +47,9 @@ returns c = sym (cut-off (c .before .before .before .before .before .before .arg
 sub-receive : tie.Need-sub-receive Inv-loop μ-loop
 sub-receive c = got (c .before .before .before) .1 .start
 
+sub-receive-2 : tie.Need-sub-receive-2 Inv-loop μ-loop
+sub-receive-2 c = let w = got (c .before .before .before) .1 in omega (arith, w .start, w .end)
+
 part-receive-start : tie.Need-part-receive-start Inv-loop μ-loop
 part-receive-start c = let w = got (c .before .before .before) .1 in search needs
 
@@ -72,7 +74,7 @@ returns-2 c =
     let l = c .before .before .before .before .before .before .before .before .before .before .before .before .before .loop in
     let q = c .before .before .before .before .before .before .before .before .before .id .given .0 in
     let g = got (c .before .before .before .before .before .before .before .before) in
-    let r = sym (ap valueOutcome (c .before .fault .given .1)) ∙ c .before .before .before .receive .ensures ∙ ap (λ b. receiveValue b (c .before .before .before .before .before .before .before .place-of .result) (q .1 .0) (between s (q .1 .0) (q .1 .1 .0))) (c .before .before .before .before .before .is-marked .ensures) in
+    let r = value-lent s (c .before .before .before .before .before .before .before .place-of .result) (q .1 .0) (q .1 .1 .0) _ _ _ (sym (ap valueOutcome (c .before .fault .given .1)) ∙ c .before .before .before .receive .ensures) (c .before .before .before .before .before .is-marked .ensures) in
     sym (faulty s (l .marks, l .kept, l .lens) (l .at) (q .0) (q .1 .0) (q .1 .1 .0) (c .before .before .before .before .before .before .before .before .before .before .before .before .loop-test .taken) (g .0) (c .before .before .before .before .before .before .before .place-of .result) (c .before .before .before .before .before .before .before .place-of .ensures) (c .before .before .before .before .before .before .if1 .taken) _ r) ∙ l .inv .1
 
 loop-less : tie.Need-loop-less Inv-loop μ-loop
@@ -87,7 +89,7 @@ loop-again c =
     let g = got (c .before .before .before .before .before .before .before .before .before .before) in
     let p = c .before .before .before .before .before .before .before .before .before .place-of in
     let x = c .before .before .before .x .given .0 .0 in
-    let r = sym (ap valueOutcome (c .before .before .before .x .given .1)) ∙ c .before .before .before .before .before .receive .ensures ∙ ap (λ b. receiveValue b (p .result) (q .1 .0) (between s (q .1 .0) (q .1 .1 .0))) (c .before .before .before .before .before .before .before .is-marked .ensures) in
+    let r = value-lent s (p .result) (q .1 .0) (q .1 .1 .0) _ _ _ (sym (ap valueOutcome (c .before .before .before .x .given .1)) ∙ c .before .before .before .before .before .receive .ensures) (c .before .before .before .before .before .before .before .is-marked .ensures) in
     let w : c .with-mark .result ≡ mark (l .marks) (p .result) = c .with-mark .ensures ∙ rw (lt-ltb (p .result) 32 (omega (arith, c .before .before .before .before .before .before .before .before .if1 .taken))) in
     let t = taken s (l .marks, l .kept, l .lens) (l .at) (q .0) (q .1 .0) (q .1 .1 .0) (c .before .before .before .before .before .before .before .before .before .before .before .before .before .before .loop-test .taken) (g .0) (p .result) (p .ensures) (c .before .before .before .before .before .before .before .before .if1 .taken) x r in
     (g .1 .end, rw (w, c .before .low .ensures, ← between-length s (q .1 .0) (q .1 .1 .0) (g .1 .start) (g .1 .end)) (sym t ∙ l .inv .1))
@@ -120,6 +122,7 @@ scan-spec =
     (λ c κs. search needs)
     (λ c κs. search needs)
     sub-receive
+    sub-receive-2
     part-receive-start
     part-receive-end
     (λ c κs. search needs)

@@ -2,7 +2,7 @@
 use native.Mathlib.Omega.{arith}
 use native.Mathlib.Nat.{div-one}
 use lib.ListN.{length-set}
-use Rattle.varint.specs.Number.{bytesOf}
+use Rattle.words.specs.Words.{bytesOf}
 use Rattle.varint.proofs.Bytes.{stored}
 use borrow.Author.Needs.{needs}
 use Rattle.laying.proofs.put_word.Statement.{statement}

@@ -1,49 +1,34 @@
--- `value::check_value` meets its contract: the tests that led to each `return` tell the kind. Assumes nothing.
-use mathlib.Core.Path.{refl, sym, _∙_}
-use Rattle.catalogue.specs.Catalogue.{number, flag, cid, token, address, reserved, fits, illegal}
-use Rattle.value.specs.Value.{keptOf, checkKind}
-use Rattle.value.proofs.Checks.{by-length, number-at, cid-at, flag-at, token-at, address-at, none-at, for-place}
+-- `value::check_value` meets its contract. Assumes nothing.
+use mathlib.Core.Path.{sym, ap, _∙_}
+use native.Mathlib.Omega.{arith}
+use lib.Seq.{take-all, length-take-le}
+use Rattle.value.specs.Value.{checkValue}
+use Rattle.value.proofs.Checks.{simple-told}
 use borrow.Author.Needs.{needs}
 use Rattle.value.proofs.check_value.Statement.{statement}
 use Rattle.value.proofs.check_value.Tie as tie
 
 returns : tie.Need-returns
-returns c = let a = c .before .before .before .before .args in for-place (a .place) number (a .start) (a .v .now) _ (number-at (a .place) (sym (c .before .before .is-marked .ensures) ∙ c .before .if1 .taken)) (c .check-number .ensures)
+returns c =
+    let a = c .before .before .before .args in
+    c .check-narrow .ensures ∙ sym (ap (checkValue (a .place) (a .start)) (take-all (a .len) (a .rest .now) (omega arith)))
 
-returns-2 : tie.Need-returns-2
-unfolding illegal fits keptOf
-returns-2 c = let a = c .before .before .before .before .before .before .args in for-place (a .place) cid (a .start) (a .v .now) _ (cid-at (a .place) (sym (c .before .before .before .before .is-marked .ensures) ∙ c .before .before .before .if1 .left) (sym (c .before .before .is-marked2 .ensures) ∙ c .before .if2 .taken)) (c .fits-if .ensures ∙ by-length (a .start) (a .v .now) cid _ refl refl refl)
+check-wide-requires : tie.Need-check-wide-requires
+check-wide-requires c κs =
+    (c .before .before .if2 .taken, c .before .before .before .if1 .left, sym (simple-told (c .before .before .before .before .before .args .place)) ∙ sym (c .before .is-marked .ensures) ∙ c .if3 .taken)
 
-returns-3 : tie.Need-returns-3
-unfolding illegal fits keptOf
-returns-3 c = let a = c .before .before .before .before .before .before .before .before .args in for-place (a .place) flag (a .start) (a .v .now) _ (flag-at (a .place) (sym (c .before .before .before .before .before .before .is-marked .ensures) ∙ c .before .before .before .before .before .if1 .left) (sym (c .before .before .before .before .is-marked2 .ensures) ∙ c .before .before .before .if2 .left) (sym (c .before .before .is-marked3 .ensures) ∙ c .before .if3 .taken)) (c .fits-if2 .ensures ∙ by-length (a .start) (a .v .now) flag _ refl refl refl)
-
-returns-4 : tie.Need-returns-4
-unfolding illegal fits keptOf
-returns-4 c = let a = c .before .before .before .before .before .before .before .before .before .args in for-place (a .place) token (a .start) (a .v .now) _ (token-at (a .place) (sym (c .before .before .before .before .before .before .before .is-marked .ensures) ∙ c .before .before .before .before .before .before .if1 .left) (sym (c .before .before .before .before .before .is-marked2 .ensures) ∙ c .before .before .before .before .if2 .left) (sym (c .before .before .before .is-marked3 .ensures) ∙ c .before .before .if3 .left) (c .before .if4 .taken)) (c .fits-if3 .ensures ∙ by-length (a .start) (a .v .now) token _ refl refl refl)
-
-returns-5 : tie.Need-returns-5
-returns-5 c = let a = c .before .before .before .before .before .before .before .before .before .before .args in for-place (a .place) address (a .start) (a .v .now) _ (address-at (a .place) (sym (c .before .before .before .before .before .before .before .before .is-marked .ensures) ∙ c .before .before .before .before .before .before .before .if1 .left) (sym (c .before .before .before .before .before .before .is-marked2 .ensures) ∙ c .before .before .before .before .before .if2 .left) (sym (c .before .before .before .before .is-marked3 .ensures) ∙ c .before .before .before .if3 .left) (c .before .before .if4 .left) (c .before .if5 .taken)) (c .check-address .ensures)
-
-returns-6 : tie.Need-returns-6
-unfolding checkKind illegal fits
-returns-6 c = let a = c .before .before .before .before .before .before .before .before .before .args in for-place (a .place) reserved (a .start) (a .v .now) _ (none-at (a .place) (sym (c .before .before .before .before .before .before .before .is-marked .ensures) ∙ c .before .before .before .before .before .before .if1 .left) (sym (c .before .before .before .before .before .is-marked2 .ensures) ∙ c .before .before .before .before .if2 .left) (sym (c .before .before .before .is-marked3 .ensures) ∙ c .before .before .if3 .left) (c .before .if4 .left) (c .if5 .left)) (refl)
+slice-aggregate-check-narrow : tie.Need-slice-aggregate-check-narrow
+slice-aggregate-check-narrow c = sym (length-take-le (c .before .before .before .before .args .len) (c .before .before .before .before .args .rest .now) (c .before .before .if1 .left))
 
 pub check-value-spec : {M : Type 1} → statement M
 check-value-spec =
     tie.close
     (tie.spec
     (λ c κs. search needs)
-    (λ c κs. search needs)
     returns
     (λ c κs. search needs)
+    check-wide-requires
+    (λ c. search needs)
+    slice-aggregate-check-narrow
     (λ c κs. search needs)
-    returns-2
-    (λ c κs. search needs)
-    (λ c κs. search needs)
-    returns-3
-    (λ c κs. search needs)
-    returns-4
-    (λ c κs. search needs)
-    returns-5
-    returns-6)
+    (λ c. search needs))

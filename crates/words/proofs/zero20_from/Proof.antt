@@ -1,43 +1,11 @@
 -- `words::zero20_from` meets its contract: the bytes make the words. Assumes nothing.
-use mathlib.Core.Path.{refl}
 use borrow.Author.Needs.{needs}
-use Rattle.words.specs.Words.{elements}
-use Rattle.words.proofs.Laws.{zero-words}
+use Rattle.words.proofs.Laws.{zero-20}
 use Rattle.words.proofs.zero20_from.Statement.{statement}
 use Rattle.words.proofs.zero20_from.Tie as tie
 
 returns : tie.Need-returns
-unfolding elements
-returns c =
-    let s = c .before .before .before .before .before .before .before .before .before .before .before .before .before .before .before .before .before .before .before .before .before .before .before .before .args .b .now in
-    zero-words _ _ _ _ _ (elements 8 0 s) (elements 8 8 s) (elements 4 16 s) refl refl (c .before .before .before .before .before .before .before .before .before .before .before .before .before .before .before .word8 .ensures) (c .before .before .before .before .before .before .word82 .ensures) (c .before .word4 .ensures) (c .zero-from .ensures)
+returns c = zero-20 _ _ _ _ (c .before .words20 .ensures) _ _ (c .zero-from .ensures)
 
 pub zero20-from-spec : {M : Type 1} → statement M
-zero20-from-spec =
-    tie.close
-    (tie.spec
-    (λ c. search needs)
-    (λ c. search needs)
-    (λ c. search needs)
-    (λ c. search needs)
-    (λ c. search needs)
-    (λ c. search needs)
-    (λ c. search needs)
-    (λ c. search needs)
-    (λ c κs. search needs)
-    (λ c. search needs)
-    (λ c. search needs)
-    (λ c. search needs)
-    (λ c. search needs)
-    (λ c. search needs)
-    (λ c. search needs)
-    (λ c. search needs)
-    (λ c. search needs)
-    (λ c κs. search needs)
-    (λ c. search needs)
-    (λ c. search needs)
-    (λ c. search needs)
-    (λ c. search needs)
-    (λ c κs. search needs)
-    (λ c κs. search needs)
-    returns)
+zero20-from-spec = tie.close (tie.spec (λ c κs. search needs) (λ c κs. search needs) returns)

@@ -5,7 +5,7 @@ use lib.ListN.{length, set, length-set}
 use Prim.Native.Nat.{_+_, _/_, _%_}
 use mathlib.Core.List.{_++_}
 use Rattle.refusal.specs.Outcome.{front}
-use Rattle.varint.specs.Number.{bytesOf}
+use Rattle.words.specs.Words.{bytesOf}
 use Rattle.writer.proofs.Parts.{family-stored}
 use borrow.Author.Needs.{needs}
 use Rattle.writer.proofs.put_family.Statement.{statement}

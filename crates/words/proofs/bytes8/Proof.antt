@@ -1,12 +1,10 @@
--- `image::bytes8` meets its contract. Assumes nothing.
+-- `words::bytes8` meets its contract. Assumes nothing.
 use native.Mathlib.Nat.{div-one}
-use Rattle.image.specs.Image.{eightBytes}
 use borrow.Author.Needs.{needs}
-use Rattle.image.proofs.bytes8.Statement.{statement}
-use Rattle.image.proofs.bytes8.Tie as tie
+use Rattle.words.proofs.bytes8.Statement.{statement}
+use Rattle.words.proofs.bytes8.Tie as tie
 
 returns : tie.Need-returns
-unfolding eightBytes
 returns c =
     rw (
       c .before .before .before .before .before .before .before .low .ensures,
