@@ -21,12 +21,12 @@ use Rattle.refusal.specs.Outcome.{pick, front}
 use Rattle.varint.specs.Number.{bound, form, tagOf, numberBytes}
 use Rattle.varint.proofs.Bytes.{four, tag-le, length-form}
 use Rattle.catalogue.specs.Catalogue.{parameter}
-use Rattle.words.specs.Words.{zeros, bytesOf}
+use Rattle.words.specs.Words.{zeros, wordOf, bytesOf}
 use Rattle.words.proofs.Laws.{joined, zeros-are, zeros-replicate, zeros-append}
 use Rattle.wire.specs.Wire.{put, dueValue, dueNumber}
 use Rattle.laying.specs.Laying.{lay, numberRest, laidNumber, laidField, Open}
-use Rattle.wire.proofs.Stored.{lent, back, rest, whole, length-front, length-lent, front-nil}
-use Rattle.wire.proofs.Put.{put-whole, put-none, put-nil, number-size, number-low, is-due, one-byte}
+use Rattle.wire.proofs.Stored.{lent, back, rest, whole, length-front, length-lent, front-nil, front-two}
+use Rattle.wire.proofs.Put.{put-whole, number-size, number-low, is-due, one-byte, due-short, short-form}
 
 pub tag-sum : (x : ℕ) → pick (ltb x 64) 0 1 + pick (ltb x 16384) 0 1 + pick (ltb x 1073741824) 0 1 ≡ tagOf x
 unfolding tagOf
@@ -65,6 +65,20 @@ wide-bytes k x h = four k (λ k. x < 64 * 256 ^ (2 ^ k - 1) → bytesOf 8 (shift
 
     three : x < 64 * 256 ^ 7 → bytesOf 8 (shifted 3 x) ≡ form 3 x ++ replicate 0 0
     three l = rw (joined 62 3 x (omega arith) (omega arith)) (eight (omega arith) (omega arith) (omega arith) (omega arith) (omega arith) (omega arith) (omega arith) (omega arith))
+
+-- the bytes of a number, low byte first
+abbrev pub lows : ℕ → List ℕ
+lows w =
+    w % 256 ∷ w / 2 ^ 8 % 256 ∷ w / 2 ^ 16 % 256 ∷ w / 2 ^ 24 % 256 ∷ w / 2 ^ 32 % 256 ∷ w / 2 ^ 40 % 256 ∷ w / 2 ^ 48 % 256 ∷ w / 2 ^ 56 % 256 ∷ []
+
+lows-word : (a b d e f g h i : ℕ) → a < 256 → b < 256 → d < 256 → e < 256 → f < 256 → g < 256 → h < 256 → i < 256
+    → lows (wordOf (a ∷ b ∷ d ∷ e ∷ f ∷ g ∷ h ∷ i ∷ [])) ≡ a ∷ b ∷ d ∷ e ∷ f ∷ g ∷ h ∷ i ∷ []
+lows-word a b d e f g h i ha hb hd he hf hg hh hi = eight (omega arith) (omega arith) (omega arith) (omega arith) (omega arith) (omega arith) (omega arith) (omega arith)
+
+pub lows-swapped : (y w : ℕ) → w ≡ wordOf (bytesOf 8 y) → lows w ≡ bytesOf 8 y
+lows-swapped y w e =
+    ap lows e
+    ∙ lows-word _ _ _ _ _ _ _ _ (omega arith) (omega arith) (omega arith) (omega arith) (omega arith) (omega arith) (omega arith) (omega arith)
 
 -- LAYING
 module _ (room : ℕ) (bs more out : List ℕ) where
@@ -199,6 +213,19 @@ module _ (id x : ℕ) (out : List ℕ) where
   pub number-short : length out < 17 → (0, out) ≡ laidNumber true id x out
   unfolding laidNumber
   number-short h = lay-none 17 (dueNumber true id x) (numberRest true id x) out h
+
+  -- behind an identifier of one byte
+  pub number-shortly : id < 64 → x < bound → 17 ≤ length out → (n : ℕ) (ys : List ℕ) → n ≡ length (numberBytes x)
+      → ys ≡ front (numberBytes x ++ replicate (8 - n) 0) (lent 2 out) → (n + 2, set (set (back 2 out ys) 0 id) 1 n) ≡ laidNumber true id x out
+  unfolding laidNumber numberRest
+  number-shortly h k l n ys g q =
+      let s = number-size x in
+      let b : dueNumber true id x ≡ id ∷ n ∷ numberBytes x = number-low id x k ∙ due-short id (numberBytes x) h (omega arith) ∙ rw (short-form id (numberBytes x) h (omega arith), g) in
+      let i : id < bound = omega arith in
+      rw (lt-ltb _ _ k, lt-ltb _ _ i)
+      (lay-whole 17 (dueNumber true id x) (replicate (8 - length (numberBytes x)) 0) out (n + 2) (set (set (back 2 out ys) 0 id) 1 n) l
+      (rw b (omega arith))
+      (front-two id n (numberBytes x ++ replicate (8 - n) 0) out ys (omega arith) q ∙ rw (b, ← g)))
 
   -- stored widely
   pub number-widely : id < bound → x < bound → 17 ≤ length out → (a n : ℕ) (m ys : List ℕ) → a ≡ length (numberBytes id) → m ≡ front (numberBytes id ++ replicate (8 - a) 0) out

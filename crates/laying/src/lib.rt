@@ -1,7 +1,7 @@
 // Parameters laid at the front of a buffer with room to spare: others that do not count are stored behind each, as zeros where the buffer is zeros.
 // So a number is stored without a branch on its width, and a field whole. Each gives the parameter's byte count, or stores nothing and gives 0.
 ghost use mathlib.Core.Path.{_≡_};
-ghost use mathlib.Core.Bool.{_&&_};
+ghost use mathlib.Core.Bool.{true, _&&_};
 ghost use mathlib.Core.List.{_++_};
 ghost use Prim.Native.Nat.{_-_, _*_, _^_, _<_, _≤_};
 ghost use lib.ListN.{length, replicate};
@@ -14,6 +14,7 @@ use varint::VarInt;
 use wire::put_bytes;
 use words::and;
 use words::low;
+use words::swapped;
 
 // Room for any identifier, the length of a number, and any number.
 const WIDEST: usize = 17;
@@ -41,18 +42,20 @@ fn wide_form(tag: u32, x: u64) -> u64
     (((tag as u64) << (bits - 2)) | x) << (64 - bits)
 }
 
+// Stores a number's eight bytes, high byte first. Of the bytes of the swapped number, low byte first, the compiler makes one store.
 fn put_word(y: u64, out: &mut [u8])
     requires { ⌜ 8 ≤ length (now out) ⌝ }
     ensures { λ r. ⌜ now (out .exit) ≡ front (bytesOf 8 y) (now (out .entry)) ⌝ }
 {
-    out[0] = low(y >> 56);
-    out[1] = low(y >> 48);
-    out[2] = low(y >> 40);
-    out[3] = low(y >> 32);
-    out[4] = low(y >> 24);
-    out[5] = low(y >> 16);
-    out[6] = low(y >> 8);
-    out[7] = low(y);
+    let w = swapped(y);
+    out[0] = low(w);
+    out[1] = low(w >> 8);
+    out[2] = low(w >> 16);
+    out[3] = low(w >> 24);
+    out[4] = low(w >> 32);
+    out[5] = low(w >> 40);
+    out[6] = low(w >> 48);
+    out[7] = low(w >> 56);
 }
 
 // Stores a number's shortest form, and zeros behind it, up to eight bytes; gives the form's length.
@@ -65,7 +68,7 @@ fn put_wide(x: u64, out: &mut [u8]) -> usize
     1 << tag
 }
 
-// A parameter that holds a number: identifier and number each have zeros behind them.
+// A parameter that holds a number.
 pub fn lay_number(due: bool, id: u64, x: u64, out: &mut [u8]) -> usize
     ensures { λ r. ⌜ (r, now (out .exit)) ≡ laidNumber due id x (now (out .entry)) ⌝ }
 {
@@ -75,12 +78,34 @@ pub fn lay_number(due: bool, id: u64, x: u64, out: &mut [u8]) -> usize
     if out.len() < WIDEST {
         return 0;
     }
-    if VarInt::MAX.0 < id {
-        return 0;
-    }
     if VarInt::MAX.0 < x {
         return 0;
     }
+    if id < 64 {
+        return lay_short(id, x, out);
+    }
+    if VarInt::MAX.0 < id {
+        return 0;
+    }
+    lay_long(id, x, out)
+}
+
+// Behind an identifier of one byte; most are.
+fn lay_short(id: u64, x: u64, out: &mut [u8]) -> usize
+    requires { ⌜ (id < 64) × (x < 2 ^ 62) × (17 ≤ length (now out)) ⌝ }
+    ensures { λ r. ⌜ (r, now (out .exit)) ≡ laidNumber true id x (now (out .entry)) ⌝ }
+{
+    let n = put_wide(x, &mut out[2..]);
+    out[0] = id as u8;
+    out[1] = n as u8;
+    n + 2
+}
+
+// Behind any other: the zeros behind it are written over.
+fn lay_long(id: u64, x: u64, out: &mut [u8]) -> usize
+    requires { ⌜ (id < 2 ^ 62) × (x < 2 ^ 62) × (17 ≤ length (now out)) ⌝ }
+    ensures { λ r. ⌜ (r, now (out .exit)) ≡ laidNumber true id x (now (out .entry)) ⌝ }
+{
     let a = put_wide(id, out);
     let b = a + 1;
     let n = put_wide(x, &mut out[b..]);

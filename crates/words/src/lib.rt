@@ -74,7 +74,7 @@ fn front8(v: &[u8]) -> u64
 }
 
 // The number of the same bytes in the other order.
-fn swapped(w: u64) -> u64
+pub fn swapped(w: u64) -> u64
     ensures { λ r. ⌜ r ≡ wordOf (bytesOf 8 w) ⌝ }
 {
     word8(

@@ -4,6 +4,11 @@ use native.Mathlib.Nat.{div-one}
 use lib.ListN.{length-set}
 use Rattle.words.specs.Words.{bytesOf}
 use Rattle.varint.proofs.Bytes.{stored}
+use Rattle.laying.proofs.Wide.{lows, lows-swapped}
+use mathlib.Core.Path.{_∙_, ap}
+use mathlib.Core.List.{List}
+use Prim.Native.Nat.{ℕ}
+use Rattle.refusal.specs.Outcome.{front}
 use borrow.Author.Needs.{needs}
 use Rattle.laying.proofs.put_word.Statement.{statement}
 use Rattle.laying.proofs.put_word.Tie as tie
@@ -31,14 +36,16 @@ slice-write-out-8 c = simp length-set (omega arith)
 
 returns : tie.Need-returns
 returns c =
-    let y = c .before .before .before .before .before .before .before .before .before .args .y in
-    rw (c .before .before .before .before .before .before .before .low .ensures, c .before .before .before .before .before .before .low2 .ensures, c .before .before .before .before .before .low3 .ensures, c .before .before .before .before .low4 .ensures, c .before .before .before .low5 .ensures, c .before .before .low6 .ensures, c .before .low7 .ensures, c .low8 .ensures, div-one y)
-    (rw div-one at (stored (bytesOf 8 y) (c .before .before .before .before .before .before .before .before .before .args .out .now) (omega arith)))
+    let o = c .before .before .before .before .before .before .before .before .before .before .args .out .now in
+    let w = c .before .before .before .before .before .before .before .before .swapped .result in
+    rw (c .before .before .before .before .before .before .before .low .ensures, c .before .before .before .before .before .before .low2 .ensures, c .before .before .before .before .before .low3 .ensures, c .before .before .before .before .low4 .ensures, c .before .before .before .low5 .ensures, c .before .before .low6 .ensures, c .before .low7 .ensures, c .low8 .ensures)
+    (stored (lows w) o (omega arith) ∙ ap (λ (s : List ℕ). front s o) (lows-swapped (c .before .before .before .before .before .before .before .before .before .before .args .y) w (c .before .before .before .before .before .before .before .before .swapped .ensures)))
 
 pub put-word-spec : {M : Type 1} → statement M
 put-word-spec =
     tie.close
     (tie.spec
+    (λ c κs. search needs)
     (λ c κs. search needs)
     (λ c. search needs)
     (λ c κs. search needs)
