@@ -37,7 +37,7 @@ use Rattle.wire.specs.Wire.{dueValue, dueNumber, numberAt}
 use Rattle.wire.specs.Stored.{joined, each}
 use Rattle.wire.proofs.Stored.{joined-append}
 use Rattle.writer.specs.Writing.{parameterAt, extension, maxExtension}
-use Rattle.writer.specs.Laid.{addressBytes}
+use Rattle.address.specs.Address.{addressBytes}
 use Rattle.writer.proofs.Places.{from11, from14, from17, in-catalogue-order, all-places}
 use Rattle.writer.proofs.Extension.{longest}
 use Rattle.tidy.specs.Tidying.{tidyFrom, tidy}

@@ -31,7 +31,8 @@ use Rattle.wire.proofs.Stored.{length-each}
 use Rattle.wire.proofs.Put.{is-due, number-is-due}
 use Rattle.order.specs.Order.{catalogueOrder}
 use Rattle.writer.specs.Writing.{reservedBytes, parameterAt, extension}
-use Rattle.writer.specs.Laid.{laid, addressBytes}
+use Rattle.address.specs.Address.{addressBytes}
+use Rattle.writer.specs.Laid.{laid}
 use Rattle.writer.proofs.Laid.{laid-then}
 
 pub record Formed (r : TransportParameters) : Type 0 where

@@ -5,10 +5,7 @@ use mathlib.Core.Path.{_≡_}
 use mathlib.Core.Bool.{Bool, true}
 use lib.ListN.{length, getD, take, drop, set}
 use Rattle.refusal.specs.Outcome.{pick}
-use Rattle.connection_id.specs.ConnectionId.{cidBytes}
-use Rattle.record.specs.declared.PreferredAddress.{PreferredAddress}
 use Rattle.catalogue.specs.Catalogue.{places}
-use Rattle.record.specs.Values.{ofV4, ofV6, familyOut}
 use Rattle.wire.specs.Wire.{put}
 use Rattle.writer.specs.Writing.{concatOf}
 
@@ -22,12 +19,6 @@ laid (s ∷ ss) k at out starts =
 unfoldable pub endsFrom : ℕ → List (List ℕ) → List ℕ
 endsFrom b [] = []
 endsFrom b (s ∷ ss) = (b + length s) ∷ endsFrom (b + length s) ss
-
--- the value of a preferred address
-abbrev pub addressBytes : PreferredAddress → List ℕ
-addressBytes a =
-    familyOut (ofV4 (a .«address_v4»))
-    ++ (familyOut (ofV6 (a .«address_v6»)) ++ (a .«connection_id» .len ∷ (cidBytes (a .«connection_id») ++ a .«stateless_reset_token» .bytes)))
 
 -- the parameter at place p, of parts whose places start where the list says
 unfoldable pub partAt : List ℕ → List ℕ → ℕ → List ℕ

@@ -9,14 +9,15 @@ ghost use Rattle.refusal.specs.Answer.{countOutcome};
 ghost use Rattle.words.specs.Words.{zeros, bytesOf};
 ghost use Rattle.connection_id.specs.ConnectionId.{cidBytes, formedCid};
 ghost use Rattle.catalogue.specs.Catalogue.{places, idAt};
-ghost use Rattle.record.specs.Values.{ofV4, ofV6, familyOut};
 ghost use Rattle.record.specs.Record.{isPresent, least, formedOptionalCid, formedAddress, formedReserved, wellFormed};
 ghost use Rattle.order.specs.Order.{permutation, catalogueOrder};
 ghost use Rattle.wire.specs.Wire.{put, dueValue, dueNumber, numberAt};
 ghost use Rattle.wire.specs.Stored.{Wrote, each};
+ghost use Rattle.address.specs.Address.{addressBytes};
 ghost use Rattle.laying.specs.Laying.{Open};
 ghost use Rattle.writer.specs.Writing.{parameterAt, concatOf, write};
-ghost use Rattle.writer.specs.Laid.{laid, addressBytes, partAt, InOrder, Fit, Front, bytesIn, Ready};
+ghost use Rattle.writer.specs.Laid.{laid, partAt, InOrder, Fit, Front, bytesIn, Ready};
+use address::put_address;
 use catalogue::DEFAULTS;
 use catalogue::DISABLE_ACTIVE_MIGRATION;
 use catalogue::DISABLE_ACTIVE_MIGRATION_ID;
@@ -35,12 +36,10 @@ use catalogue::ORIGINAL_DST_CID;
 use catalogue::ORIGINAL_DST_CID_ID;
 use catalogue::PLACES;
 use catalogue::PREFERRED_ADDRESS;
-use catalogue::PREFERRED_ADDRESS_ID;
 use catalogue::RETRY_SRC_CID;
 use catalogue::RETRY_SRC_CID_ID;
 use catalogue::STATELESS_RESET_TOKEN;
 use catalogue::STATELESS_RESET_TOKEN_ID;
-use connection_id::ConnectionId;
 use laying::lay_field;
 use laying::lay_number;
 use order::is_permutation;
@@ -50,8 +49,6 @@ use record::OptionalResetToken;
 use record::PreferredAddress;
 use record::ReservedTransportParameter;
 use record::ResetToken;
-use record::SocketAddrV4;
-use record::SocketAddrV6;
 use record::TransportParameters;
 use refusal::Counted;
 use refusal::Refusal;
@@ -110,67 +107,6 @@ fn put_optional(id: u64, o: OptionalNumber, out: &mut [u8]) -> usize
     ensures { λ r. ⌜ (r, now (out .exit)) ≡ put (dueNumber (isPresent o) id (least o)) (now (out .entry)) ⌝ }
 {
     lay_number(o.is_present(), id, o.or_zero(), out)
-}
-
-fn put_address(a: PreferredAddress, out: &mut [u8]) -> usize
-    requires { ⌜ formedAddress a ≡ true ⌝ }
-    ensures { λ r. ⌜ (r, now (out .exit)) ≡ put (dueValue (a .present) (idAt 15) (addressBytes a)) (now (out .entry)) ⌝ }
-{
-    if !a.present {
-        return 0;
-    }
-    if out.len() < 43 + size(a.connection_id.len) {
-        return 0;
-    }
-    let n = put_address_value(
-        a.address_v4,
-        a.address_v6,
-        a.connection_id,
-        a.stateless_reset_token,
-        &mut out[2..],
-    );
-    out[0] = PREFERRED_ADDRESS_ID as u8;
-    out[1] = n as u8;
-    n + 2
-}
-
-// Its value, for which there is room: an address and its port, of each family, the ID behind its length, and the token.
-fn put_address_value(
-    v4: SocketAddrV4,
-    v6: SocketAddrV6,
-    cid: ConnectionId,
-    token: ResetToken,
-    out: &mut [u8],
-) -> usize
-    requires { ⌜ (formedCid cid ≡ true) × (41 + cid .len ≤ length (now out)) ⌝ }
-    ensures { λ r. ⌜ Wrote (41 + cid .len) (familyOut (ofV4 v4) ++ (familyOut (ofV6 v6) ++ (cid .len ∷ (cidBytes cid ++ token .bytes))))
-        (now (out .entry)) r (now (out .exit)) ⌝ }
-{
-    let ip4 = v4.ip;
-    let ip6 = v6.ip;
-    put_family(&ip4, v4.port, out);
-    put_family(&ip6, v6.port, &mut out[6..]);
-    24 + put_cid_and_token(cid, token, &mut out[24..])
-}
-
-fn put_family(ip: &[u8], port: u16, out: &mut [u8])
-    requires { ⌜ length (now ip) + 2 ≤ length (now out) ⌝ }
-    ensures { λ r. ⌜ now (out .exit) ≡ front (now (ip .entry) ++ bytesOf 2 port) (now (out .entry)) ⌝ }
-{
-    let n = put_bytes(ip, out);
-    out[n] = (port / 256) as u8;
-    out[n + 1] = (port % 256) as u8;
-}
-
-fn put_cid_and_token(cid: ConnectionId, token: ResetToken, out: &mut [u8]) -> usize
-    requires { ⌜ (formedCid cid ≡ true) × (17 + cid .len ≤ length (now out)) ⌝ }
-    ensures { λ r. ⌜ Wrote (17 + cid .len) (cid .len ∷ (cidBytes cid ++ token .bytes)) (now (out .entry)) r (now (out .exit)) ⌝ }
-{
-    let bytes = token.bytes;
-    let Counted::Count(at) = cid.encode_long(out) else {
-        return 0;
-    };
-    at + put_bytes(&bytes, &mut out[at..])
 }
 
 // Each lays the parameters due at some places behind the first `at` bytes, and notes where the places after them start.

@@ -9,7 +9,8 @@ use Rattle.wire.proofs.Stored.{back}
 use Rattle.laying.proofs.Wide.{Next, open-lent, open-within, open-next, short-number-few, long-number-few}
 use Rattle.writer.specs.Laid.{laid}
 use Rattle.writer.proofs.Laid.{fits-most, laid-three}
-use Rattle.writer.proofs.Parts.{reserved-few, token-few, cid-few, flag-few, short-flag-few, address-few}
+use Rattle.writer.proofs.Parts.{reserved-few, token-few, cid-few, flag-few, short-flag-few}
+use Rattle.address.proofs.Address.{address-due, address-few}
 use borrow.Author.Needs.{needs}
 use Rattle.writer.proofs.put_14_to_16.Statement.{statement}
 use Rattle.writer.proofs.put_14_to_16.Tie as tie
@@ -21,7 +22,7 @@ one c = open-next 155 _ 10 _ _ (c .before .before .before .before .before .args 
 
 two : (c : tie.After-slice-known3) → Next 165 (c .before .before .before .before .before .before .before .before .before .args .at + c .before .before .before .before .before .before .put-optional .result) 63 (c .before .before .put-address .result) (back (c .before .before .before .before .before .before .before .before .before .args .at) (c .before .before .before .before .before .before .before .before .before .args .out .now) (c .before .before .before .before .before .before .put-optional .last .1 .1 .0)) (c .before .before .put-address .last .1 .0)
 unfolding idAt ids
-two c = open-next 165 _ 63 _ _ (back (c .before .before .before .before .before .before .before .before .before .args .at) (c .before .before .before .before .before .before .before .before .before .args .out .now) (c .before .before .before .before .before .before .put-optional .last .1 .1 .0)) _ (one (c .before .before .before .before) .opened) (omega arith) (address-few _ (c .before .before .before .before .before .before .before .before .before .pre .0)) (c .before .before .put-address .ensures)
+two c = open-next 165 _ 63 _ _ (back (c .before .before .before .before .before .before .before .before .before .args .at) (c .before .before .before .before .before .before .before .before .before .args .out .now) (c .before .before .before .before .before .before .put-optional .last .1 .1 .0)) _ (one (c .before .before .before .before) .opened) (omega arith) (address-few _ (c .before .before .before .before .before .before .before .before .before .pre .0)) (address-due (c .before .before .before .before .before .before .before .before .before .args .p) _ _ _ _ (c .before .before .before .before .before .before .before .before .before .pre .0) (c .before .before .put-address .ensures))
 
 three : (c : tie.After-slice-known4) → Next 228 (c .before .before .before .before .before .before .before .before .before .before .before .before .before .args .at + c .before .before .before .before .before .before .before .before .before .before .put-optional .result + c .before .before .before .before .before .before .put-address .result) 22 (c .before .before .put-cid .result) (back (c .before .before .before .before .before .before .before .before .before .before .before .before .before .args .at + c .before .before .before .before .before .before .before .before .before .before .put-optional .result) (back (c .before .before .before .before .before .before .before .before .before .before .before .before .before .args .at) (c .before .before .before .before .before .before .before .before .before .before .before .before .before .args .out .now) (c .before .before .before .before .before .before .before .before .before .before .put-optional .last .1 .1 .0)) (c .before .before .before .before .before .before .put-address .last .1 .0)) (c .before .before .put-cid .last .1 .1 .0)
 unfolding idAt ids
@@ -52,7 +53,7 @@ part-put-address-end : tie.Need-part-put-address-end
 part-put-address-end c = le-refl _
 
 put-address-requires : tie.Need-put-address-requires
-put-address-requires c κs = let o = open-lent (one (c .before) .opened) (omega arith) in c .before .before .before .before .before .before .pre .0
+put-address-requires c κs = tt
 
 add-b : tie.Need-add-b
 add-b c = let o = two c .opened in fits-most (o .within) (omega arith)
@@ -90,7 +91,7 @@ returns c =
     let a = c .before .before .before .before .before .before .before .before .before .before .before .before .before .args in (
       laid-three _ _ _ 15 (a .at) _ _ _ (a .out .now) _ _ _ (a .starts .now)
           (c .before .before .before .before .before .before .before .before .before .before .put-optional .ensures)
-          (c .before .before .before .before .before .before .put-address .ensures)
+          (address-due (c .before .before .before .before .before .before .before .before .before .before .before .before .before .args .p) _ _ _ _ (c .before .before .before .before .before .before .before .before .before .before .before .before .before .pre .0) (c .before .before .before .before .before .before .put-address .ensures))
           (c .before .before .put-cid .ensures),
       three c .opened,
     )

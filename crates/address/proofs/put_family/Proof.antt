@@ -1,4 +1,4 @@
--- `writer::put_family` meets its contract. Assumes nothing.
+-- `address::put_family` meets its contract. Assumes nothing.
 use native.Mathlib.Omega.{arith}
 use mathlib.Core.Path.{_≡_}
 use lib.ListN.{length, set, length-set}
@@ -6,10 +6,10 @@ use Prim.Native.Nat.{_+_, _/_, _%_}
 use mathlib.Core.List.{_++_}
 use Rattle.refusal.specs.Outcome.{front}
 use Rattle.words.specs.Words.{bytesOf}
-use Rattle.writer.proofs.Parts.{family-stored}
+use Rattle.address.proofs.Address.{family-stored}
 use borrow.Author.Needs.{needs}
-use Rattle.writer.proofs.put_family.Statement.{statement}
-use Rattle.writer.proofs.put_family.Tie as tie
+use Rattle.address.proofs.put_family.Statement.{statement}
+use Rattle.address.proofs.put_family.Tie as tie
 
 -- the address, and the port behind it
 kept : (c : tie.After-slice-known2) → (c .before .before .put-bytes .result ≡ length (c .before .before .before .before .before .before .args .ip .now))

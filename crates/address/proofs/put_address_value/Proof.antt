@@ -1,4 +1,4 @@
--- `writer::put_address_value` meets its contract. Assumes nothing.
+-- `address::put_address_value` meets its contract. Assumes nothing.
 use native.Mathlib.Omega.{arith}
 use native.Mathlib.Nat.{le-refl}
 use Prim.Native.Nat.{_+_}
@@ -6,10 +6,10 @@ use mathlib.Core.Path.{_≡_}
 use lib.ListN.{length}
 use Rattle.record.specs.Values.{ofV4, ofV6}
 use Rattle.wire.proofs.Stored.{behind, wrote-few, wrote-three}
-use Rattle.writer.proofs.Parts.{family-wrote}
+use Rattle.address.proofs.Address.{family-wrote}
 use borrow.Author.Needs.{needs}
-use Rattle.writer.proofs.put_address_value.Statement.{statement}
-use Rattle.writer.proofs.put_address_value.Tie as tie
+use Rattle.address.proofs.put_address_value.Statement.{statement}
+use Rattle.address.proofs.put_address_value.Tie as tie
 
 -- what the types say
 known : (c : tie.Start) → (length (c .args .v4 .ip) ≡ 4) × (length (c .args .v6 .ip) ≡ 16)

@@ -1,4 +1,4 @@
--- `writer::put_cid_and_token` meets its contract: a well-formed ID is not refused. Assumes nothing.
+-- `address::put_cid_and_token` meets its contract: a well-formed ID is not refused. Assumes nothing.
 use native.Mathlib.Omega.{arith}
 use mathlib.Core.Path.{_≡_, ap}
 use lib.ListN.{length}
@@ -8,10 +8,10 @@ use Rattle.refusal.specs.Answer.{countOutcome}
 use Rattle.connection_id.specs.ConnectionId.{cidWire}
 use Rattle.wire.specs.Stored.{Wrote}
 use Rattle.wire.proofs.Stored.{back}
-use Rattle.writer.proofs.Parts.{cid-encoded, cid-never, token-behind}
+use Rattle.address.proofs.Address.{cid-encoded, cid-never, token-behind}
 use borrow.Author.Needs.{needs}
-use Rattle.writer.proofs.put_cid_and_token.Statement.{statement}
-use Rattle.writer.proofs.put_cid_and_token.Tie as tie
+use Rattle.address.proofs.put_cid_and_token.Statement.{statement}
+use Rattle.address.proofs.put_cid_and_token.Tie as tie
 
 -- what the type says, and what the answer says
 known : (c : tie.Start) → length (c .args .token .bytes) ≡ 16
