@@ -1,5 +1,5 @@
 -- What the tests of the code mean for the definitions: a value of each kind, the kind of a place, a second copy. Assumes nothing.
-use Prim.Native.Nat.{ℕ, zero, suc, _+_, _*_, _/_, _%_, _^_, _≤_, _<_}
+use Prim.Native.Nat.{ℕ, zero, suc, _+_, _*_, _^_, _≤_, _<_}
 use mathlib.Core.Path.{_≡_, refl, ap, sym, _∙_}
 use mathlib.Core.List.{List, [], _∷_}
 use mathlib.Core.Bool.{Bool, true, false, _&&_, not}
@@ -10,6 +10,8 @@ use lib.ListN.{length, getD, take, List·getD-eq-default}
 use lib.Seq.{length-take-le}
 use lib.Dec.{eqb, leb, ltb, leb·zero}
 use borrow.Author.Tests.{le-leb, lt-leb, eq-eqb, ne-eqb, eqb-true, eqb-false, leb-true, leb-false, ltb-true, ltb-false}
+use mir.Syntax.{w64}
+use mir.Val.{Fits}
 use Rattle.refusal.specs.Outcome.{Result, accepted, refused, pick, all}
 use Rattle.refusal.proofs.Laws.{all-at}
 use Rattle.varint.specs.Number.{readNumber, readWide}
@@ -17,7 +19,7 @@ use Rattle.varint.proofs.Laws.{read-take}
 use Rattle.marks.specs.Mark.{marked}
 use Rattle.words.specs.Words.{zeros}
 use Rattle.catalogue.specs.Catalogue.{Kind, number, flag, cid, token, address, reserved, otherKinds, kinds, kindAt, fills, fits, illegal, idLength}
-use Rattle.catalogue.proofs.Places.{below, below-at}
+use Rattle.catalogue.proofs.Places.{below-at}
 use Rattle.record.specs.Values.{value}
 use Rattle.front.specs.declared.Fault.{Fault}
 use Rattle.front.specs.declared.Fault.the-variants.{SecondCopy, Misfit, Illegal}
@@ -113,53 +115,60 @@ is j k = eqb (code j) (code k)
 is-it : (j k : Kind) → is j k ≡ true → k ≡ j
 is-it j k e = sym (coded k) ∙ ap (λ n. getD (number ∷ flag ∷ cid ∷ token ∷ address ∷ reserved ∷ []) n reserved) (sym (eqb-true (code j) (code k) e)) ∙ coded j
 
-beyond : (p : ℕ) → 21 ≤ p → kindAt p ≡ reserved
-unfolding kindAt kinds otherKinds
-beyond p h = List·getD-eq-default kinds reserved {n = p} h
-
--- a test of places that agrees with one of their kinds at each
-told : (t : ℕ → Bool) (f : Kind → Bool) → below 21 (λ p. eqb (pick (t p) 1 0) (pick (f (kindAt p)) 1 0)) ≡ true → f reserved ≡ false → ((p : ℕ) → 21 ≤ p → t p ≡ false)
-    → (p : ℕ) → t p ≡ f (kindAt p)
-told t f c r o p = go (ltb p 21) refl
-  where
-    same : (a b : Bool) → eqb (pick a 1 0) (pick b 1 0) ≡ true → a ≡ b
-    same true true e = refl
-    same true false e = let z : _≡_ {A = ℕ} 0 1 = cc in absurd (omega arith)
-    same false true e = let z : _≡_ {A = ℕ} 0 1 = cc in absurd (omega arith)
-    same false false e = refl
-
-    go : (b : Bool) → ltb p 21 ≡ b → t p ≡ f (kindAt p)
-    go true e = same (t p) (f (kindAt p)) (below-at 21 (λ p. eqb (pick (t p) 1 0) (pick (f (kindAt p)) 1 0)) c p (ltb-true p 21 e))
-    go false e = o p (ltb-false p 21 e) ∙ sym (ap f (beyond p (ltb-false p 21 e)) ∙ r)
-
 above : (m p : ℕ) → m < 2 ^ 21 → 21 ≤ p → marked m p ≡ false
 unfolding marked
 above m p h k = rw (div-eq-of-lt (lt-of-lt-of-le h (pow-mono k)))
 
+-- two tests agree
+abbrev same : Bool → Bool → Bool
+same true b = b
+same false b = not b
+
+same-is : (a b : Bool) → same a b ≡ true → a ≡ b
+same-is true b e = sym e
+same-is false true e = e
+same-is false false e = refl
+
+-- the tests of a place agree with those of its kind
+abbrev tests : ℕ → Kind → List Bool
+tests p k =
+    same (marked 0x1047ff p) (is number k)
+    ∷ same (marked 0x70000 p) (is cid k)
+    ∷ same (marked 0x82000 p) (is flag k)
+    ∷ same (eqb p 12) (is token k)
+    ∷ same (eqb p 15) (is address k)
+    ∷ same (marked 0x1f77ff p) (isSimple k)
+    ∷ []
+
+agree : (p : ℕ) → all (tests p (kindAt p)) ≡ true
+unfolding all kindAt kinds otherKinds
+agree p = go (ltb p 21) refl
+  where
+    go : (b : Bool) → ltb p 21 ≡ b → all (tests p (kindAt p)) ≡ true
+    go true e = unfold marked in below-at 21 (λ p. all (tests p (kindAt p))) refl p (ltb-true p 21 e)
+    go false e =
+        let h = ltb-false p 21 e in
+        let k : kindAt p ≡ reserved = List·getD-eq-default kinds reserved {n = p} h in
+        rw (k, above 0x1047ff p (omega arith) h, above 0x70000 p (omega arith) h, above 0x82000 p (omega arith) h, ne-eqb p 12 (omega arith), ne-eqb p 15 (omega arith), above 0x1f77ff p (omega arith) h)
+
 module _ (p : ℕ) where
   number-told : marked 0x1047ff p ≡ is number (kindAt p)
-  unfolding kindAt kinds otherKinds marked
-  number-told = told (marked 0x1047ff) (is number) refl refl (λ p. above 0x1047ff p (omega arith)) p
+  number-told = same-is _ _ (all-at (tests p (kindAt p)) (agree p) 0)
 
   cid-told : marked 0x70000 p ≡ is cid (kindAt p)
-  unfolding kindAt kinds otherKinds marked
-  cid-told = told (marked 0x70000) (is cid) refl refl (λ p. above 0x70000 p (omega arith)) p
+  cid-told = same-is _ _ (all-at (tests p (kindAt p)) (agree p) 1)
 
   flag-told : marked 0x82000 p ≡ is flag (kindAt p)
-  unfolding kindAt kinds otherKinds marked
-  flag-told = told (marked 0x82000) (is flag) refl refl (λ p. above 0x82000 p (omega arith)) p
+  flag-told = same-is _ _ (all-at (tests p (kindAt p)) (agree p) 2)
 
   token-told : eqb p 12 ≡ is token (kindAt p)
-  unfolding kindAt kinds otherKinds
-  token-told = told (λ p. eqb p 12) (is token) refl refl (λ p k. ne-eqb p 12 (omega arith)) p
+  token-told = same-is _ _ (all-at (tests p (kindAt p)) (agree p) 3)
 
   address-told : eqb p 15 ≡ is address (kindAt p)
-  unfolding kindAt kinds otherKinds
-  address-told = told (λ p. eqb p 15) (is address) refl refl (λ p k. ne-eqb p 15 (omega arith)) p
+  address-told = same-is _ _ (all-at (tests p (kindAt p)) (agree p) 4)
 
   pub simple-told : marked 0x1f77ff p ≡ isSimple (kindAt p)
-  unfolding kindAt kinds otherKinds marked
-  simple-told = told (marked 0x1f77ff) isSimple refl refl (λ p. above 0x1f77ff p (omega arith)) p
+  simple-told = same-is _ _ (all-at (tests p (kindAt p)) (agree p) 5)
 
   pub number-at : marked 0x1047ff p ≡ true → kindAt p ≡ number
   number-at a = is-it number (kindAt p) (sym number-told ∙ a)
@@ -214,10 +223,10 @@ module _ (a len x n : ℕ) (rest : List ℕ) (room : 8 ≤ length rest) (within 
       go false p true q = absurd (omega (arith, leb-false n len p, eqb-true len n q))
       go false p false q = refl
 
-  pub wide : (p i j t : ℕ) → isSimple (kindAt p) ≡ true → i ≡ pick (marked 0x1047ff p) 1 0 → j ≡ pick (marked 0x70000 p) 1 0 → t ≡ pick (eqb p 12) 1 0
-      → judged (leb (getD (16 * t ∷ n ∷ []) i 0) len && leb len (getD (16 * t ∷ n ∷ []) i 0 + 20 * j)) (getD (a ∷ x ∷ []) i 0) ≡ checkValue p a (take len rest)
+  pub wide : (p i j t : ℕ) (b : Bool) (o : Result Fault ℕ) → isSimple (kindAt p) ≡ true → i ≡ pick (marked 0x1047ff p) 1 0 → j ≡ pick (marked 0x70000 p) 1 0 → t ≡ pick (eqb p 12) 1 0
+      → b ≡ (leb (getD (16 * t ∷ n ∷ []) i 0) len && leb len (getD (16 * t ∷ n ∷ []) i 0 + 20 * j)) → o ≡ judged b (getD (a ∷ x ∷ []) i 0) → o ≡ checkValue p a (take len rest)
   unfolding illegal fits keptOf
-  wide p i j t s ei ej et = rw (ei, ej, et, number-told p, cid-told p, token-told p) (go (kindAt p) s)
+  wide p i j t b o s ei ej et eb eo = eo ∙ rw (eb, ei, ej, et, number-told p, cid-told p, token-told p) (go (kindAt p) s)
     where
       go : (k : Kind) → isSimple k ≡ true
           → judged (leb (getD (16 * pick (is token k) 1 0 ∷ n ∷ []) (pick (is number k) 1 0) 0) len && leb len (getD (16 * pick (is token k) 1 0 ∷ n ∷ []) (pick (is number k) 1 0) 0 + 20 * pick (is cid k) 1 0))
@@ -229,11 +238,21 @@ module _ (a len x n : ℕ) (rest : List ℕ) (room : 8 ≤ length rest) (within 
       go address s = let z : _≡_ {A = ℕ} 0 1 = cc in absurd (omega arith)
       go reserved s = let z : _≡_ {A = ℕ} 0 1 = cc in absurd (omega arith)
 
--- one of two numbers, by 0 or 1
-pub one-of : (a b i : ℕ) → i ≤ 1 → getD (a ∷ b ∷ []) i 0 ≤ a + b
-one-of a b zero h = omega arith
-one-of a b (suc zero) h = omega arith
-one-of a b (suc (suc i)) h = absurd (omega arith)
+-- what is made of 0 or 1 fits
+module _ (b : ℕ) (h : b < 2) where
+  pub fits-8 : Fits w64 (b * 8)
+  fits-8 = record { fits = omega arith }
+
+  pub fits-16 : Fits w64 (16 * b)
+  fits-16 = record { fits = omega arith }
+
+  pub fits-20 : Fits w64 (20 * b)
+  fits-20 = record { fits = omega arith }
+
+pub fits-longest : (t n i j : ℕ) → t < 2 → n ≤ 8 → i < 2 → j < 2 → Fits w64 (getD (16 * t ∷ n ∷ []) i 0 + 20 * j)
+fits-longest t n zero j ht hn hi hj = record { fits = omega arith }
+fits-longest t n (suc zero) j ht hn hi hj = record { fits = omega arith }
+fits-longest t n (suc (suc i)) j ht hn hi hj = absurd (omega arith)
 
 -- A VALUE FOR A PLACE
 pub for-place : (p : ℕ) (k : Kind) (a : ℕ) (v : List ℕ) (o : Result Fault ℕ) → kindAt p ≡ k → o ≡ checkKind k a v → o ≡ checkValue p a v

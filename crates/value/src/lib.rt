@@ -1,7 +1,7 @@
 // A value received for a place of the catalogue: whether it is a second copy, whether it fits its kind, and what is kept of it.
 ghost use mathlib.Core.Path.{_≡_};
 ghost use mathlib.Core.Bool.{true};
-ghost use Prim.Native.Nat.{_≤_};
+ghost use Prim.Native.Nat.{_≤_, _<_};
 ghost use lib.ListN.{length, take};
 ghost use Rattle.refusal.specs.Outcome.{pick};
 ghost use Rattle.catalogue.specs.Catalogue.{number, address, kindAt};
@@ -77,7 +77,7 @@ fn fits_if(test: bool, kept: u64) -> Value
 
 // 1 or 0. What it indexes is chosen with no branch.
 fn bit(test: bool) -> usize
-    ensures { λ r. ⌜ (r ≡ pick test 1 0) × (r ≤ 1) ⌝ }
+    ensures { λ r. ⌜ (r ≡ pick test 1 0) × (r < 2) ⌝ }
 {
     if test { 1 } else { 0 }
 }

@@ -2,7 +2,6 @@
 use native.Mathlib.Omega.{arith}
 use mathlib.Core.Path.{sym, _∙_}
 use Rattle.value.proofs.Checks.{address-none, address-id, address-short, address-illegal, address-judged}
-use borrow.Author.Needs.{needs}
 use Rattle.value.proofs.check_address.Statement.{statement}
 use Rattle.value.proofs.check_address.Tie as tie
 
@@ -29,15 +28,15 @@ check-address-spec =
     tie.close
     (tie.spec
     returns
-    (λ c. search needs)
+    (λ c. omega arith)
     cast-n
     returns-2
-    (λ c. search needs)
+    (λ c. omega arith)
     returns-3
-    (λ c. search needs)
-    (λ c. search needs)
-    (λ c. search needs)
-    (λ c κs. search needs)
+    (λ c. omega arith)
+    (λ c. omega arith)
+    (λ c. omega arith)
+    (λ c κs. tt)
     returns-4
-    (λ c κs. search needs)
+    (λ c κs. tt)
     returns-5)

@@ -3,7 +3,6 @@ use mathlib.Core.Path.{refl, sym, _∙_}
 use Rattle.catalogue.specs.Catalogue.{number, flag, cid, token, address, reserved, fits, illegal}
 use Rattle.value.specs.Value.{keptOf, checkKind}
 use Rattle.value.proofs.Checks.{by-length, number-at, cid-at, flag-at, token-at, address-at, none-at, for-place}
-use borrow.Author.Needs.{needs}
 use Rattle.value.proofs.check_narrow.Statement.{statement}
 use Rattle.value.proofs.check_narrow.Tie as tie
 
@@ -38,17 +37,17 @@ pub check-narrow-spec : {M : Type 1} → statement M
 check-narrow-spec =
     tie.close
     (tie.spec
-    (λ c κs. search needs)
-    (λ c κs. search needs)
+    (λ c κs. tt)
+    (λ c κs. tt)
     returns
-    (λ c κs. search needs)
-    (λ c κs. search needs)
+    (λ c κs. tt)
+    (λ c κs. tt)
     returns-2
-    (λ c κs. search needs)
-    (λ c κs. search needs)
+    (λ c κs. tt)
+    (λ c κs. tt)
     returns-3
-    (λ c κs. search needs)
+    (λ c κs. tt)
     returns-4
-    (λ c κs. search needs)
+    (λ c κs. tt)
     returns-5
     returns-6)

@@ -22,7 +22,7 @@ pub check-number-spec : {M : Type 1} → statement M
 check-number-spec =
     tie.close
     (tie.spec
-    (λ c κs. search needs)
+    (λ c κs. tt)
     (λ c. search needs)
     enum-told
     returns

@@ -24,11 +24,11 @@ pub check-value-spec : {M : Type 1} → statement M
 check-value-spec =
     tie.close
     (tie.spec
-    (λ c κs. search needs)
+    (λ c κs. tt)
     returns
-    (λ c κs. search needs)
+    (λ c κs. tt)
     check-wide-requires
     (λ c. search needs)
     slice-aggregate-check-narrow
-    (λ c κs. search needs)
+    (λ c κs. tt)
     (λ c. search needs))

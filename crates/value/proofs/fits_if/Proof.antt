@@ -1,6 +1,5 @@
 -- `value::fits_if` meets its contract. Assumes nothing.
 
-use borrow.Author.Needs.{needs}
 use Rattle.value.proofs.fits_if.Statement.{statement}
 use Rattle.value.proofs.fits_if.Tie as tie
 

@@ -1,7 +1,6 @@
 -- `value::may_repeat` meets its contract. Assumes nothing.
 use Rattle.value.specs.Value.{mayRepeat}
 use borrow.Author.Tests.{ne-eqb}
-use borrow.Author.Needs.{needs}
 use Rattle.value.proofs.may_repeat.Statement.{statement}
 use Rattle.value.proofs.may_repeat.Tie as tie
 

@@ -5,7 +5,6 @@ use mathlib.Core.Logic.{⊎-elim}
 use mathlib.Core.Path.{sym, _∙_}
 use lib.ListN.{take}
 use Rattle.value.proofs.Checks.{second-copy, no-copy, repeats}
-use borrow.Author.Needs.{needs}
 use Rattle.value.proofs.receive.Statement.{statement}
 use Rattle.value.proofs.receive.Tie as tie
 
@@ -25,7 +24,7 @@ pub receive-spec : {M : Type 1} → statement M
 receive-spec =
     tie.close
     (tie.spec
-    (λ c κs. search needs)
+    (λ c κs. tt)
     returns
-    (λ c κs. search needs)
+    (λ c κs. tt)
     returns-2)

@@ -1,6 +1,5 @@
 -- `words::bytes8` meets its contract. Assumes nothing.
 use native.Mathlib.Nat.{div-one}
-use borrow.Author.Needs.{needs}
 use Rattle.words.proofs.bytes8.Statement.{statement}
 use Rattle.words.proofs.bytes8.Tie as tie
 
@@ -22,12 +21,12 @@ pub bytes8-spec : {M : Type 1} → statement M
 bytes8-spec =
     tie.close
     (tie.spec
-    (λ c κs. search needs)
-    (λ c κs. search needs)
-    (λ c κs. search needs)
-    (λ c κs. search needs)
-    (λ c κs. search needs)
-    (λ c κs. search needs)
-    (λ c κs. search needs)
-    (λ c κs. search needs)
+    (λ c κs. tt)
+    (λ c κs. tt)
+    (λ c κs. tt)
+    (λ c κs. tt)
+    (λ c κs. tt)
+    (λ c κs. tt)
+    (λ c κs. tt)
+    (λ c κs. tt)
     returns)

@@ -1,5 +1,5 @@
 -- `words::words20` meets its contract. Assumes nothing.
-use borrow.Author.Needs.{needs}
+use lib.Dec.{lit<}
 use Rattle.words.specs.Words.{elements}
 use Rattle.words.proofs.words20.Statement.{statement}
 use Rattle.words.proofs.words20.Tie as tie
@@ -12,27 +12,27 @@ pub words20-spec : {M : Type 1} → statement M
 words20-spec =
     tie.close
     (tie.spec
-    (λ c. search needs)
-    (λ c. search needs)
-    (λ c. search needs)
-    (λ c. search needs)
-    (λ c. search needs)
-    (λ c. search needs)
-    (λ c. search needs)
-    (λ c. search needs)
-    (λ c κs. search needs)
-    (λ c. search needs)
-    (λ c. search needs)
-    (λ c. search needs)
-    (λ c. search needs)
-    (λ c. search needs)
-    (λ c. search needs)
-    (λ c. search needs)
-    (λ c. search needs)
-    (λ c κs. search needs)
-    (λ c. search needs)
-    (λ c. search needs)
-    (λ c. search needs)
-    (λ c. search needs)
-    (λ c κs. search needs)
+    (λ c. lit< tt)
+    (λ c. lit< tt)
+    (λ c. lit< tt)
+    (λ c. lit< tt)
+    (λ c. lit< tt)
+    (λ c. lit< tt)
+    (λ c. lit< tt)
+    (λ c. lit< tt)
+    (λ c κs. tt)
+    (λ c. lit< tt)
+    (λ c. lit< tt)
+    (λ c. lit< tt)
+    (λ c. lit< tt)
+    (λ c. lit< tt)
+    (λ c. lit< tt)
+    (λ c. lit< tt)
+    (λ c. lit< tt)
+    (λ c κs. tt)
+    (λ c. lit< tt)
+    (λ c. lit< tt)
+    (λ c. lit< tt)
+    (λ c. lit< tt)
+    (λ c κs. tt)
     returns)

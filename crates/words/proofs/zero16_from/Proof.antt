@@ -1,7 +1,7 @@
 -- `words::zero16_from` meets its contract: the bytes make the words. Assumes nothing.
 use mathlib.Core.Path.{refl}
 use mathlib.Core.List.{[]}
-use borrow.Author.Needs.{needs}
+use lib.Dec.{lit<}
 use Rattle.words.specs.Words.{elements}
 use Rattle.words.proofs.Laws.{zero-words, no-word}
 use Rattle.words.proofs.zero16_from.Statement.{statement}
@@ -17,23 +17,23 @@ pub zero16-from-spec : {M : Type 1} → statement M
 zero16-from-spec =
     tie.close
     (tie.spec
-    (λ c. search needs)
-    (λ c. search needs)
-    (λ c. search needs)
-    (λ c. search needs)
-    (λ c. search needs)
-    (λ c. search needs)
-    (λ c. search needs)
-    (λ c. search needs)
-    (λ c κs. search needs)
-    (λ c. search needs)
-    (λ c. search needs)
-    (λ c. search needs)
-    (λ c. search needs)
-    (λ c. search needs)
-    (λ c. search needs)
-    (λ c. search needs)
-    (λ c. search needs)
-    (λ c κs. search needs)
-    (λ c κs. search needs)
+    (λ c. lit< tt)
+    (λ c. lit< tt)
+    (λ c. lit< tt)
+    (λ c. lit< tt)
+    (λ c. lit< tt)
+    (λ c. lit< tt)
+    (λ c. lit< tt)
+    (λ c. lit< tt)
+    (λ c κs. tt)
+    (λ c. lit< tt)
+    (λ c. lit< tt)
+    (λ c. lit< tt)
+    (λ c. lit< tt)
+    (λ c. lit< tt)
+    (λ c. lit< tt)
+    (λ c. lit< tt)
+    (λ c. lit< tt)
+    (λ c κs. tt)
+    (λ c κs. tt)
     returns)

@@ -1,5 +1,5 @@
 -- `words::zero4` meets its contract: the bytes make the word. Assumes nothing.
-use borrow.Author.Needs.{needs}
+use lib.Dec.{lit<}
 use Rattle.words.specs.Words.{elements}
 use Rattle.words.proofs.Laws.{zero-word}
 use Rattle.words.proofs.zero4.Statement.{statement}
@@ -13,9 +13,9 @@ pub zero4-spec : {M : Type 1} → statement M
 zero4-spec =
     tie.close
     (tie.spec
-    (λ c. search needs)
-    (λ c. search needs)
-    (λ c. search needs)
-    (λ c. search needs)
-    (λ c κs. search needs)
+    (λ c. lit< tt)
+    (λ c. lit< tt)
+    (λ c. lit< tt)
+    (λ c. lit< tt)
+    (λ c κs. tt)
     returns)
