@@ -117,7 +117,7 @@ fn write_times(r: TransportParameters, times: usize, out: &mut [u8]) -> usize
 pub extern "C" fn timing_write(record: &[u8], times: usize, out: &mut [u8]) -> usize
     ensures { λ r. ⌜ (r, now (out .exit)) ≡ writtenFrom (recordFrom (now («record» .entry))) times (now (out .entry)) ⌝ }
 {
-    let imaged = image::record_from(record);
+    let imaged = imaged::record_from(record);
     let answer = imaged.answer;
     match answer {
         Answer::Accepted => {
@@ -133,7 +133,7 @@ pub extern "C" fn timing_write(record: &[u8], times: usize, out: &mut [u8]) -> u
 pub extern "C" fn timing_written(record: &[u8], out: &mut [u8]) -> usize
     ensures { λ r. ⌜ (r, now (out .exit)) ≡ writtenFrom (recordFrom (now («record» .entry))) 1 (now (out .entry)) ⌝ }
 {
-    let imaged = image::record_from(record);
+    let imaged = imaged::record_from(record);
     let answer = imaged.answer;
     match answer {
         Answer::Accepted => {

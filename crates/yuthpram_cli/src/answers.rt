@@ -57,11 +57,11 @@ fn say_stored(stored: Counted, out: &[u8]) -> Status {
 
 // The operations on a record, by its image.
 fn write_image(record: &[u8], out: &mut [u8]) -> Counted {
-    writer::write(image::record_from(record).parameters, out)
+    writer::write(imaged::record_from(record).parameters, out)
 }
 
 fn check_image(side: Side, record: &[u8]) -> Answer {
-    rules::check(image::record_from(record).parameters, side)
+    rules::check(imaged::record_from(record).parameters, side)
 }
 
 // Writes a record in text form.
