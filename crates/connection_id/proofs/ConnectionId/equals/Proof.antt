@@ -21,4 +21,4 @@ returns c =
     c .and .ensures ∙ ap (λ t. eqb (a .self .len) (a .other .len) && t) (rw (whole-array 20 (a .self .bytes) (k .0), whole-array 20 (a .other .bytes) (k .1)) at (c .before .same20 .ensures))
 
 pub equals-spec : {M : Type 1} → statement M
-equals-spec = tie.close (tie.spec (λ c κs. search needs) (λ c κs. search needs) returns)
+equals-spec = tie.close (tie.spec (λ c κs. tt) (λ c κs. tt) returns)

@@ -17,4 +17,4 @@ returns-2 : tie.Need-returns-2
 returns-2 c = formed-rest (c .before .before .before .before .before .args .self) _ (known (c .before .before .before .before .before)) (c .before .before .before .if1 .left) (rw (whole-array 20 (c .before .before .before .before .before .args .self .bytes) (known (c .before .before .before .before .before))) at (c .zero20-from .ensures))
 
 pub is-well-formed-spec : {M : Type 1} → statement M
-is-well-formed-spec = tie.close (tie.spec (λ c. search needs) returns (λ c κs. search needs) returns-2)
+is-well-formed-spec = tie.close (tie.spec (λ c. search needs) returns (λ c κs. tt) returns-2)
