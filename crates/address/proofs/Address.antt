@@ -3,7 +3,7 @@
 --     cid-encoded, cid-never         the ID behind its length
 --     token-behind                   the token
 --     address-none, address-whole, address-off    the parameter: without room, with it, and where it is not due
---     address-due, address-few       in a well-formed record
+--     address-due                    in a well-formed record
 use Prim.Native.Nat.{ℕ, _+_, _/_, _%_, _≤_, _<_}
 use mathlib.Core.List.{List, [], _∷_, _++_}
 use mathlib.Core.Path.{_≡_, refl, ap, sym, _∙_}
@@ -13,7 +13,6 @@ use native.Mathlib.Nat.{mod-eq-of-lt, div-one}
 use native.Mathlib.Numerals.{add-one}
 use lib.ListN.{length, take, drop, set, length-append}
 use lib.Seq.{take-append-seam, drop-append-add, drop-drop, sets-eq}
-use borrow.Author.Tests.{eqb-true}
 use Rattle.refusal.specs.Outcome.{Outcome, accepted, refused, front}
 use Rattle.refusal.proofs.Laws.{all-at}
 use Rattle.words.specs.Words.{bytesOf}
@@ -23,11 +22,11 @@ use Rattle.connection_id.specs.ConnectionId.{cidWire, formedCid, writeCid}
 use Rattle.connection_id.proofs.Laws.{cid-facts, cid-length}
 use Rattle.record.specs.declared.PreferredAddress.{PreferredAddress}
 use Rattle.record.specs.Values.{Family, familyOut}
-use Rattle.record.specs.Record.{formedFamily, formedToken, formedAddress}
+use Rattle.record.specs.Record.{formedAddress}
 use Rattle.wire.specs.Wire.{put, dueValue}
 use Rattle.wire.specs.Stored.{Wrote}
 use Rattle.wire.proofs.Stored.{lent, back, length-front, lent-room, stored-whole, wrote-few, wrote-then}
-use Rattle.wire.proofs.Put.{put-wrote, put-nil, not-due, due-short, short-form, short-none, short-whole}
+use Rattle.wire.proofs.Put.{put-wrote, put-nil, not-due, due-short, short-none, short-whole}
 use Rattle.address.specs.Address.{addressBytes}
 
 pub family-stored : (n x : ℕ) (ip out m : List ℕ) → length ip + 2 ≤ length out → x < 65536 → (n, m) ≡ put ip out
@@ -105,16 +104,3 @@ pub address-due : (a : PreferredAddress) (id n : ℕ) (out m : List ℕ) → for
     → (n, m) ≡ put (dueValue (a .present && formedCid (a .«connection_id»)) id (addressBytes a)) out → (n, m) ≡ put (dueValue (a .present) id (addressBytes a)) out
 unfolding formedAddress
 address-due a id n out m f e = rw (all-at _ f 2, and-true (a .present)) at e
-
-pub address-few : (a : PreferredAddress) → formedAddress a ≡ true → length (dueValue (a .present) 13 (addressBytes a)) ≤ 63
-unfolding formedAddress formedFamily formedToken
-address-few a f =
-    let l₄ = eqb-true (length (a .«address_v4» .ip)) 4 (all-at _ (all-at _ f 0) 0) in
-    let l₆ = eqb-true (length (a .«address_v6» .ip)) 16 (all-at _ (all-at _ f 1) 0) in
-    let t = eqb-true (length (a .«stateless_reset_token» .bytes)) 16 (all-at _ f 3) in
-    let e = address-length a (all-at _ f 2) l₄ l₆ t in
-    go (a .present) (omega arith)
-  where
-    go : (b : Bool) → length (addressBytes a) ≤ 61 → length (dueValue b 13 (addressBytes a)) ≤ 63
-    go true h = rw (due-short 13 (addressBytes a) (omega arith) (omega arith), short-form 13 (addressBytes a) (omega arith) (omega arith)) (omega arith)
-    go false h = rw (not-due 13 (addressBytes a) false refl) (omega arith)

@@ -4,19 +4,16 @@
 --     headed         identifier, length and value, stored one over the end of the other
 --     lay-none, lay-whole, lay-nil    without room, with it, and of no bytes
 --     lay-clear      on a buffer of zeros it is storing exactly
---     clear-behind   what is behind stays zeros
 use Prim.Native.Nat.{ℕ, zero, suc, _+_, _-_, _*_, _/_, _%_, _^_, _≤_, _<_}
 use mathlib.Core.List.{List, [], _∷_, _++_, append-assoc}
 use mathlib.Core.Path.{_≡_, refl, ap, ap₂, sym, _∙_}
 use mathlib.Core.Bool.{Bool, true, false, _&&_}
 use native.Mathlib.Omega.{arith}
-use native.Mathlib.Nat.{mod-eq-of-lt, div-one}
-use native.Mathlib.Numerals.{add-one}
 use lib.ListN.{length, take, drop, set, replicate, length-append, length-drop, length-set, length-replicate, take-append-drop}
-use lib.Seq.{sets-eq, take-at, drop-at, drop-drop, take-take, take-append-le, take-append-seam, drop-append-seam, drop-append-add, length-take-le}
-use lib.Bits.{bitOr, or-shifted}
+use lib.Seq.{sets-eq, take-at, drop-at, drop-drop, take-take, take-append-le, drop-append-add, length-take-le}
+use lib.Bits.{bitOr}
 use lib.Dec.{ltb, leb, eqb}
-use borrow.Author.Tests.{le-leb, lt-leb, leb-true, leb-false, ltb-true, ltb-false, lt-ltb, le-ltb}
+use borrow.Author.Tests.{le-leb, lt-leb, leb-true, ltb-true, ltb-false, lt-ltb, le-ltb}
 use Rattle.refusal.specs.Outcome.{pick, front}
 use Rattle.varint.specs.Number.{bound, form, tagOf, numberBytes}
 use Rattle.varint.proofs.Bytes.{four, tag-le, length-form}
@@ -24,7 +21,7 @@ use Rattle.catalogue.specs.Catalogue.{parameter}
 use Rattle.words.specs.Words.{zeros, wordOf, bytesOf}
 use Rattle.words.proofs.Laws.{joined, zeros-are, zeros-replicate, zeros-append}
 use Rattle.wire.specs.Wire.{put, dueValue, dueNumber}
-use Rattle.laying.specs.Laying.{lay, numberRest, laidNumber, laidField, Open}
+use Rattle.laying.specs.Laying.{lay, numberRest, laidNumber, laidField}
 use Rattle.wire.proofs.Stored.{lent, back, rest, whole, length-front, length-lent, front-nil, front-two}
 use Rattle.wire.proofs.Put.{put-whole, number-size, number-low, is-due, one-byte, due-short, short-form}
 
@@ -98,7 +95,7 @@ lay-nil room out = go (leb room (length out))
     go true = ap (λ (l : List ℕ). (0, l)) (sym (front-nil out))
     go false = refl
 
-zeros-dropped : (n : ℕ) (l : List ℕ) → zeros l ≡ true → zeros (drop n l) ≡ true
+pub zeros-dropped : (n : ℕ) (l : List ℕ) → zeros l ≡ true → zeros (drop n l) ≡ true
 zeros-dropped zero l h = h
 zeros-dropped (suc n) [] h = refl
 zeros-dropped (suc n) (b ∷ l) h = go (eqb b 0) h (zeros-dropped n l)
@@ -120,25 +117,6 @@ lay-clear room bs more out r h k l =
     rw (le-leb _ _ r)
     (put-whole (length bs) bs out ((bs ++ more) ++ drop (length (bs ++ more)) out) (omega arith) refl
     (append-assoc bs more (drop (length (bs ++ more)) out) ∙ ap (λ (t : List ℕ). bs ++ t) s))
-
--- and what is behind stays zeros
-pub put-clear : (s l : List ℕ) → zeros l ≡ true → zeros (drop (put s l .0) (put s l .1)) ≡ true
-unfolding put front
-put-clear s l h = go (leb (length s) (length l))
-  where
-    answer : Bool → ℕ × List ℕ
-    answer t = pick t (length s, s ++ drop (length s) l) (0, l)
-
-    go : (t : Bool) → zeros (drop (answer t .0) (answer t .1)) ≡ true
-    go true = rw (drop-append-seam s (drop (length s) l)) (zeros-dropped (length s) l h)
-    go false = h
-
-pub clear-behind : (at n : ℕ) (s out ys : List ℕ) → at ≤ length out → zeros (drop at out) ≡ true → (n, ys) ≡ put s (lent at out) → zeros (drop (at + n) (back at out ys)) ≡ true
-clear-behind at n s out ys h z e =
-    let l : length (take at out) ≡ at = length-take-le at out h in
-    let d : drop (at + n) (take at out ++ ys) ≡ drop n ys = ap (λ (i : ℕ). drop (i + n) (take at out ++ ys)) (sym l) ∙ drop-append-add (take at out) ys n in
-    let q : drop n ys ≡ drop (put s (lent at out) .0) (put s (lent at out) .1) = ap (λ (p : ℕ × List ℕ). drop (p .0) (p .1)) e in
-    rw (whole at out ys, d, q) (put-clear s (lent at out) (rw (rest at out) z))
 
 -- identifier, length and value: the zeros behind the identifier are written over
 pub headed : (ds vs out m ys : List ℕ) (a t : ℕ) → a ≡ length ds → a ≤ 8 → 8 ≤ length vs → a + 1 + length vs ≤ length out → m ≡ front (ds ++ replicate (8 - a) 0) out
@@ -327,17 +305,13 @@ none-zero true l h = h
 none-zero false l h = refl
 
 -- how long a parameter can be that is due
-pub due-few : (due : Bool) (id : ℕ) (v : List ℕ) → length v < 64 → length (dueValue due id v) ≤ length (numberBytes id) + 1 + length v
+due-few : (due : Bool) (id : ℕ) (v : List ℕ) → length v < 64 → length (dueValue due id v) ≤ length (numberBytes id) + 1 + length v
 unfolding dueValue parameter
 due-few due id v h = go (due && (ltb id bound && ltb (length v) bound))
   where
     go : (t : Bool) → length (pick t (numberBytes id ++ (numberBytes (length v) ++ v)) []) ≤ length (numberBytes id) + 1 + length v
     go true = rw (one-byte (length v) h, length-append (numberBytes id) (length v ∷ v)) (omega arith)
     go false = omega arith
-
-pub number-few : (due : Bool) (id x : ℕ) → length (dueNumber due id x) ≤ length (numberBytes id) + 9
-unfolding dueNumber
-number-few due id x = let s = number-size x in omega (arith, due-few (due && ltb x bound) id (numberBytes x) (omega arith))
 
 pub number-clear : (due : Bool) (id x : ℕ) (out : List ℕ) → 17 ≤ length out → zeros out ≡ true → laidNumber due id x out ≡ put (dueNumber due id x) out
 unfolding laidNumber numberRest dueNumber dueValue parameter
@@ -373,44 +347,3 @@ field-clear due id n v out f r z k =
     pick-few : (t : Bool) (l : List ℕ) → length (pick t l []) ≤ length l
     pick-few true l = omega arith
     pick-few false l = omega arith
-
--- A PLACE THAT IS OPEN
-pub open-lent : {most at : ℕ} {out : List ℕ} → Open most at out → most ≤ 314 → (32 ≤ length (lent at out)) × (zeros (lent at out) ≡ true)
-open-lent {most} {at} {out} o h = (rw (length-lent at out) (omega (arith, o .within, o .long)), rw (rest at out) (o .clear))
-
-pub open-within : {most at : ℕ} {out : List ℕ} → Open most at out → most ≤ 346 → at ≤ length out
-open-within o h = omega (arith, o .within, o .long)
-
-put-few : (n : ℕ) (s l m : List ℕ) → (n, m) ≡ put s l → (n ≤ length s) × (length m ≡ length l)
-unfolding put
-put-few n s l m e = go (leb (length s) (length l)) refl (ap (λ (p : ℕ × List ℕ). p .0) e) (ap (λ (p : ℕ × List ℕ). p .1) e)
-  where
-    answer : Bool → ℕ × List ℕ
-    answer t = pick t (length s, front s l) (0, l)
-
-    go : (t : Bool) → leb (length s) (length l) ≡ t → n ≡ answer t .0 → m ≡ answer t .1 → (n ≤ length s) × (length m ≡ length l)
-    go true b f g = (omega arith, ap length g ∙ length-front s l (leb-true _ _ b))
-    go false b f g = (omega arith, ap length g)
-
--- behind a parameter of at most k bytes it is open again
-pub record Next (most at k n : ℕ) (out ys : List ℕ) : Type 0 where
-  pub opened : Open (most + k) (at + n) (back at out ys)
-  pub same : length (back at out ys) ≡ length out
-
-pub open-next : (most at k n : ℕ) (s out ys : List ℕ) → Open most at out → most ≤ 346 → length s ≤ k → (n, ys) ≡ put s (lent at out) → Next most at k n out ys
-open-next most at k n s out ys o b h e =
-    let f = put-few n s (lent at out) ys e in
-    let w = open-within o b in
-    let l : length (take at out) ≡ at = length-take-le at out w in
-    let m : length (back at out ys) ≡ length out = rw (whole at out ys, length-append (take at out) ys) (omega (arith, length-lent at out)) in
-    record { opened = record { within = omega (arith, o .within); long = omega (arith, o .long); clear = clear-behind at n s out ys w (o .clear) e }; same = m }
-
--- lengths behind an identifier of one byte
-pub short-few : (due : Bool) (id : ℕ) (v : List ℕ) → id < 64 → length v < 64 → length (dueValue due id v) ≤ 2 + length v
-short-few due id v h k = let e = ap length (one-byte id h) in omega (arith, due-few due id v k)
-
-pub short-number-few : (due : Bool) (id x : ℕ) → id < 64 → length (dueNumber due id x) ≤ 10
-short-number-few due id x h = let e = ap length (one-byte id h) in omega (arith, number-few due id x)
-
-pub long-number-few : (due : Bool) (id x : ℕ) → length (dueNumber due id x) ≤ 17
-long-number-few due id x = omega (arith, number-few due id x, number-size id)

@@ -1,12 +1,10 @@
 -- Parameters laid at the front of a buffer, with others behind them that do not count.
-use Prim.Native.Nat.{ℕ, _+_, _-_, _≤_}
+use Prim.Native.Nat.{ℕ, _+_, _-_}
 use mathlib.Core.List.{List, [], _++_}
-use mathlib.Core.Path.{_≡_}
-use mathlib.Core.Bool.{Bool, true, _&&_}
+use mathlib.Core.Bool.{Bool, _&&_}
 use lib.ListN.{length, take, drop, replicate}
 use lib.Dec.{ltb, leb}
 use Rattle.refusal.specs.Outcome.{pick, front}
-use Rattle.words.specs.Words.{zeros}
 use Rattle.varint.specs.Number.{bound, numberBytes}
 use Rattle.wire.specs.Wire.{dueValue, dueNumber}
 
@@ -29,9 +27,3 @@ laidField due id n v out =
     pick (leb 8 (length v) && (ltb (length v) 64 && leb n (length v)))
     (lay (length v + 9) (dueValue due id (take n v)) (pick (due && ltb id bound) (drop n v) []) out)
     (0, out)
-
--- a place in a buffer, so many bytes from its front at most, with zeros from it on
-pub record Open (most at : ℕ) (out : List ℕ) : Type 0 where
-  pub within : at ≤ most
-  pub long : 346 ≤ length out
-  pub clear : zeros (drop at out) ≡ true

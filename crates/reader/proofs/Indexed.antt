@@ -1,22 +1,20 @@
 -- Reading, by what the index keeps: the record of what is kept is the record of the values, and the value rules are the same. Assumes nothing.
 --     read-indexed     reading gives the record of what is kept, or the number of the fault
-use Prim.Native.Nat.{ℕ, zero, suc, _+_, _-_, _≤_, _<_}
+use Prim.Native.Nat.{ℕ, suc, _+_, _-_, _≤_, _<_}
 use mathlib.Core.Path.{_≡_, refl, ap, sym, _∙_, subst}
 use mathlib.Core.List.{List, [], _∷_}
 use mathlib.Core.Option.{Option, none, some}
-use mathlib.Core.Bool.{Bool, true, false, _&&_}
+use mathlib.Core.Bool.{Bool, true, false}
 use native.Mathlib.Omega.{arith}
 use lib.ListN.{length, getD, take, drop, length-drop}
 use lib.Seq.{length-take-le, getD-take, getD-drop}
-use lib.Dec.{ltb}
-use borrow.Author.Tests.{ltb-true}
-use Rattle.refusal.specs.Outcome.{Result, accepted, refused, Outcome, pick, andThen, all}
+use Rattle.refusal.specs.Outcome.{Result, accepted, refused, pick, andThen, all}
 use Rattle.refusal.specs.Number.{numberOf}
 use Rattle.refusal.proofs.Laws.{inverted, picked}
 use Rattle.words.specs.Words.{elements}
 use Rattle.connection_id.specs.ConnectionId.{cidOf}
 use Rattle.marks.specs.Mark.{marked}
-use Rattle.catalogue.specs.Catalogue.{Kind, number, cid, token, address, kinds, otherKinds, kindAt, defaults, fits, idLength}
+use Rattle.catalogue.specs.Catalogue.{Kind, number, flag, cid, token, address, kinds, otherKinds, kindAt, defaults, fits}
 use Rattle.catalogue.proofs.Places.{number-kind}
 use Rattle.record.specs.declared.OptionalNumber.the-variants.{Absent, Present}
 use Rattle.record.specs.declared.TransportParameters.{TransportParameters}
@@ -24,7 +22,7 @@ use Rattle.record.proofs.KindLaws.{Fits, IfSome}
 use Rattle.record.specs.Values.{Bytes, Values, noValues, isSome, numberIn, optionalIn, cidIn, tokenIn, addressIn, numbersIn, recordOf}
 use Rattle.record.specs.Record.{least, defaultRecord}
 use Rattle.rules.specs.declared.Side.{Side}
-use Rattle.rules.specs.Rules.{isServer, numberRules, presenceRules, valueRules}
+use Rattle.rules.specs.Rules.{valueRules}
 use Rattle.front.specs.declared.Fault.{Fault}
 use Rattle.front.specs.declared.Fault.the-variants.{Illegal}
 use Rattle.front.specs.Answer.{refusedWith, numbered}
@@ -40,6 +38,9 @@ use Rattle.reader.proofs.Agree.{Agrees, Related, related}
 -- kinds that are no numbers
 pub no-number : (p : ℕ) (k : Kind) → kindAt p ≡ k → (k ≡ number → ⊥) → kindAt p ≡ number → ⊥
 no-number p k e n q = n (sym e ∙ q)
+
+pub flag-no : flag ≡ number → ⊥
+flag-no e = let z : _≡_ {A = ℕ} 0 1 = cc in omega arith
 
 pub cid-no : cid ≡ number → ⊥
 cid-no e = let z : _≡_ {A = ℕ} 0 1 = cc in omega arith

@@ -173,6 +173,13 @@ module _ (p : ℕ) where
   pub number-at : marked 0x1047ff p ≡ true → kindAt p ≡ number
   number-at a = is-it number (kindAt p) (sym number-told ∙ a)
 
+  pub not-number-at : marked 0x1047ff p ≡ false → kindAt p ≡ number → ⊥
+  not-number-at a e =
+      let t : is number (kindAt p) ≡ true = rw e refl in
+      let f : false ≡ true = sym a ∙ number-told ∙ t in
+      let z : _≡_ {A = ℕ} 0 1 = cc in
+      omega arith
+
   pub cid-at : marked 0x70000 p ≡ true → kindAt p ≡ cid
   cid-at a = is-it cid (kindAt p) (sym cid-told ∙ a)
 

@@ -3,24 +3,27 @@
 --     laid-then      some, then others
 --     laid-within    never beyond the buffer
 --     laid-room      with room for all: where they stand, and where each ends
-use Prim.Native.Nat.{ℕ, suc, _+_, _-_, _*_, _^_, _≤_, _<_}
+use Prim.Native.Nat.{ℕ, zero, suc, _+_, _-_, _*_, _^_, _≤_, _<_}
 use mir.Val.{Fits}
 use mir.Syntax.{w64}
-use mathlib.Core.List.{List, [], _∷_, _++_, append-assoc}
+use mathlib.Core.List.{List, [], _∷_, _++_, append-assoc, append-nil}
 use mathlib.Core.Path.{_≡_, refl, ap, ap₂, sym, _∙_, subst}
+use mathlib.Core.Bool.{true}
 use native.Mathlib.Omega.{arith}
-use native.Mathlib.Nat.{add-zero}
+use native.Mathlib.Nat.{add-zero, le-refl}
 use native.Mathlib.Numerals.{add-one}
 use lib.ListN.{length, take, drop, set, length-append, length-take, length-drop, length-set, take-append-drop}
-use lib.Seq.{sets, take-at, drop-at, drop-drop, length-take-le}
+use lib.Seq.{sets, take-at, drop-at, drop-drop, drop-append-add, drop-append-seam, length-take-le}
 use Rattle.refusal.specs.Outcome.{front}
 use Rattle.catalogue.specs.Catalogue.{places}
 use Rattle.wire.specs.Wire.{put}
 use Rattle.wire.specs.Stored.{Wrote, joined, each}
-use Rattle.wire.proofs.Stored.{lent, back, rest, whole, length-front, length-each}
-use Rattle.wire.proofs.Put.{Behind, put-whole, put-within}
+use Rattle.wire.proofs.Stored.{lent, back, rest, whole, length-lent, length-front, length-each, joined-append}
+use Rattle.wire.proofs.Put.{Behind, put-whole, put-within, put-behind}
 use Rattle.writer.specs.Writing.{maxExtension}
-use Rattle.writer.specs.Laid.{laid, endsFrom}
+use Rattle.words.specs.Words.{zeros}
+use Rattle.laying.proofs.Wide.{zeros-dropped}
+use Rattle.writer.specs.Laid.{laid, endsFrom, Room, Next}
 
 pub laid-next : (s : List ℕ) (ss : List (List ℕ)) (k at n : ℕ) (out ys st : List ℕ) → (n, ys) ≡ put s (lent at out)
     → laid (s ∷ ss) k at out st ≡ laid ss (suc k) (at + n) (back at out ys) (set st k (at + n))
@@ -54,32 +57,10 @@ place i h = omega arith
 pub fits-behind : {at n : ℕ} {o m : List ℕ} {l : ℕ} → Behind at n o m → length o ≡ l → l < 2 ^ 64 → Fits w64 (at + n)
 fits-behind {at} {n} {o} {m} h e k = record { fits = omega (arith, h .within, h .same) }
 
-pub fits-most : {a most : ℕ} → a ≤ most → most ≤ 346 → Fits w64 a
-fits-most h k = omega arith
-
 pub fits-room : (a n l : ℕ) → a ≤ n → n ≤ l → l < 2 ^ 64 → Fits w64 a
 fits-room a n l h k i = omega arith
 
--- three writers one after another, and a fourth
-module _ (s₁ s₂ s₃ : List ℕ) (k at n₁ n₂ n₃ : ℕ) (out y₁ y₂ y₃ st : List ℕ) (e₁ : (n₁, y₁) ≡ put s₁ (lent at out)) (e₂ : (n₂, y₂) ≡ put s₂ (lent (at + n₁) (back at out y₁)))
-    (e₃ : (n₃, y₃) ≡ put s₃ (lent (at + n₁ + n₂) (back (at + n₁) (back at out y₁) y₂))) where
-  three : (ss : List (List ℕ)) → laid (s₁ ∷ s₂ ∷ s₃ ∷ ss) k at out st
-      ≡ laid ss (suc (suc (suc k))) (at + n₁ + n₂ + n₃) (back (at + n₁ + n₂) (back (at + n₁) (back at out y₁) y₂) y₃)
-      (set (set (set st k (at + n₁)) (suc k) (at + n₁ + n₂)) (suc (suc k)) (at + n₁ + n₂ + n₃))
-  three ss = laid-next s₁ _ k at n₁ out y₁ st e₁ ∙ laid-next s₂ _ _ _ n₂ _ y₂ _ e₂ ∙ laid-next s₃ ss _ _ n₃ _ y₃ _ e₃
-
-  pub laid-three : laid [] (suc (suc (suc k))) (at + n₁ + n₂ + n₃) (back (at + n₁ + n₂) (back (at + n₁) (back at out y₁) y₂) y₃)
-      (set (set (set st k (at + n₁)) (suc k) (at + n₁ + n₂)) (suc (suc k)) (at + n₁ + n₂ + n₃))
-      ≡ laid (s₁ ∷ s₂ ∷ s₃ ∷ []) k at out st
-  laid-three = sym (three [])
-
-  pub laid-four : (s₄ : List ℕ) (n₄ : ℕ) (y₄ : List ℕ) → (n₄, y₄) ≡ put s₄ (lent (at + n₁ + n₂ + n₃) (back (at + n₁ + n₂) (back (at + n₁) (back at out y₁) y₂) y₃))
-      → laid [] (suc (suc (suc (suc k)))) (at + n₁ + n₂ + n₃ + n₄) (back (at + n₁ + n₂ + n₃) (back (at + n₁ + n₂) (back (at + n₁) (back at out y₁) y₂) y₃) y₄)
-      (set (set (set (set st k (at + n₁)) (suc k) (at + n₁ + n₂)) (suc (suc k)) (at + n₁ + n₂ + n₃)) (suc (suc (suc k))) (at + n₁ + n₂ + n₃ + n₄))
-      ≡ laid (s₁ ∷ s₂ ∷ s₃ ∷ s₄ ∷ []) k at out st
-  laid-four s₄ n₄ y₄ e₄ = sym (three (s₄ ∷ []) ∙ laid-next s₄ [] _ _ n₄ _ y₄ _ e₄)
-
-abbrev Laid : Type 0
+abbrev pub Laid : Type 0
 Laid = ℕ × List ℕ × List ℕ
 
 abbrev on : List (List ℕ) → ℕ → Laid → Laid
@@ -96,13 +77,18 @@ pub laid-then : (ss ts : List (List ℕ)) (k i at a : ℕ) (out st o s : List �
     → laid ts i a o s ≡ laid (ss ++ ts) k at out st
 laid-then ss ts k i at a out st o s h e = rw h (ap (on ts (k + length ss)) e) ∙ sym (laid-append ss ts k at out st)
 
--- one more of the first places
-pub number-more : (f : ℕ → List ℕ) (i at n : ℕ) (out st o s ys : List ℕ) → (at, o, s) ≡ laid (each f i) 1 0 out st → (n, ys) ≡ put (f i) (lent at o)
-    → (at + n, back at o ys, set s (i + 1) (at + n)) ≡ laid (each f (i + 1)) 1 0 out st
-unfolding each laid
-number-more f i at n out st o s ys e w =
-    let k : i + 1 ≡ 1 + length (each f i) = omega (arith, length-each f i) in
-    rw k (sym (laid-next (f i) [] (1 + length (each f i)) at n o ys s w)) ∙ laid-then (each f i) (f i ∷ []) 1 (1 + length (each f i)) 0 at out st o s refl e ∙ rw (add-one i)
+-- one, by the writer that was lent the rest
+pub laid-one : (s : List ℕ) (k at n : ℕ) (out ys st : List ℕ) → (n, ys) ≡ put s (lent at out) → (at + n, back at out ys, set st k (at + n)) ≡ laid (s ∷ []) k at out st
+unfolding laid
+laid-one s k at n out ys st e = sym (laid-next s [] k at n out ys st e)
+
+-- one more behind the first i
+pub laid-more : (f : ℕ → List ℕ) (i k b at n : ℕ) (out st o s o₁ s₁ : List ℕ) → (at, o, s) ≡ laid (each f i) k b out st → (n, o₁, s₁) ≡ laid (f i ∷ []) (k + i) at o s
+    → (n, o₁, s₁) ≡ laid (each f (i + 1)) k b out st
+unfolding each
+laid-more f i k b at n out st o s o₁ s₁ e w =
+    let q : k + i ≡ k + length (each f i) = rw (length-each f i) in
+    w ∙ laid-then (each f i) (f i ∷ []) k (k + i) b at out st o s q e ∙ rw (add-one i)
 
 -- never beyond the buffer
 abbrev pub Within : ℕ → List ℕ → List ℕ → Laid → Type 0
@@ -154,6 +140,66 @@ whole-laid ss n out st m st₁ h k e =
     let q : _≡_ {A = Laid} (n, m, st₁) (0 + length (joined ss), front (joined ss) out, sets st 1 (endsFrom 0 ss)) = e ∙ laid-room ss 1 0 out st (omega arith) in
     let c : n ≡ 0 + length (joined ss) = ap (λ (t : Laid). t .0) q in
     record { wrote = record { count = omega arith; few = omega arith; bytes = ap (λ (t : Laid). t .1) q }; noted = ap (λ (t : Laid). t .2) q }
+
+-- room for what is still to be laid
+pub room-then : (ss ts : List (List ℕ)) (k at a : ℕ) (out st o s : List ℕ) → Room (ss ++ ts) at st out → (a, o, s) ≡ laid ss k at out st → Room ts a s o
+unfolding front
+room-then ss ts k at a out st o s r e =
+    let j : length (joined (ss ++ ts)) ≡ length (joined ss) + length (joined ts) = ap length (joined-append ss ts) ∙ length-append (joined ss) (joined ts) in
+    let h : at + length (joined ss) ≤ length out = omega (arith, r .within, r .long) in
+    let w = laid-within ss k at a out st o s (omega arith) e in
+    let q : _≡_ {A = Laid} (a, o, s) (at + length (joined ss), take at out ++ front (joined ss) (drop at out), sets st k (endsFrom at ss)) = e ∙ laid-room ss k at out st h in
+    let c : a ≡ at + length (joined ss) = ap (λ (t : Laid). t .0) q in
+    let m : o ≡ take at out ++ front (joined ss) (drop at out) = ap (λ (t : Laid). t .1) q in
+    let l : length (take at out) ≡ at = length-take-le at out (omega arith) in
+    let d : drop a o ≡ drop (length (joined ss)) (drop at out) = rw (c, m) (drop-behind at (take at out) (joined ss) _ l) in
+    record { noted = w .2 ∙ r .noted; within = omega (arith, r .within); long = omega (arith, w .1, r .long); clear = rw d (zeros-dropped (length (joined ss)) (drop at out) (r .clear)) }
+  where
+    drop-behind : (i : ℕ) (x y z : List ℕ) → length x ≡ i → drop (i + length y) (x ++ (y ++ z)) ≡ z
+    drop-behind i x y z h = rw (← h, drop-append-add x (y ++ z) (length y)) (drop-append-seam y z)
+
+pub room-front : (ss ts : List (List ℕ)) (at : ℕ) (st out : List ℕ) → Room (ss ++ ts) at st out → Room ss at st out
+room-front ss ts at st out r =
+    let j : length (joined (ss ++ ts)) ≡ length (joined ss) + length (joined ts) = ap length (joined-append ss ts) ∙ length-append (joined ss) (joined ts) in
+    record { noted = r .noted; within = omega (arith, r .within); long = r .long; clear = r .clear }
+
+-- before the next, after the one before it, and one behind the other
+pub room-next : {s : List ℕ} {ss : List (List ℕ)} {at : ℕ} {st out : List ℕ} → Room (s ∷ ss) at st out → (p : ℕ) → p < places → Next p at st out
+unfolding joined
+room-next r p h = record { place = h; room = record { noted = r .noted; within = omega (arith, r .within); long = r .long; clear = r .clear } }
+
+pub room-step : {s : List ℕ} {ss : List (List ℕ)} (k : ℕ) {at a : ℕ} {out st o t : List ℕ} → Room (s ∷ ss) at st out → (a, o, t) ≡ laid (s ∷ []) k at out st → Room ss a t o
+room-step {s} {ss} k {at} {a} {out} {st} {o} {t} r e = room-then (s ∷ []) ss k at a out st o t r e
+
+pub laid-step : (s : List ℕ) (ss : List (List ℕ)) (k at : ℕ) (out st : List ℕ) {a : ℕ} {o t : List ℕ} {x : Laid} → (a, o, t) ≡ laid (s ∷ []) k at out st → x ≡ laid ss (k + 1) a o t → x ≡ laid (s ∷ ss) k at out st
+laid-step s ss k at out st {a} {o} {t} {x} e f = f ∙ laid-then (s ∷ []) ss k (k + 1) at a out st o t refl e
+
+-- in the middle of some
+prefix : (f : ℕ → List ℕ) (p d : ℕ) → length (joined (each f p)) ≤ length (joined (each f (p + d)))
+unfolding each
+prefix f p zero = rw (add-zero p) (le-refl _)
+prefix f p (suc d) =
+    let q : length (joined (each f (p + d) ++ (f (p + d) ∷ []))) ≡ length (joined (each f (p + d))) + length (joined (f (p + d) ∷ [])) = ap length (joined-append (each f (p + d)) (f (p + d) ∷ [])) ∙ length-append (joined (each f (p + d))) _ in
+    let e : p + suc d ≡ suc (p + d) = omega arith in
+    rw e (omega (arith, prefix f p d))
+
+pub room-among : (f : ℕ → List ℕ) (p n at : ℕ) (out st o s : List ℕ) → p < n → n ≤ places → Room (each f n) 0 st out → (at, o, s) ≡ laid (each f p) 1 0 out st → Next p at s o
+room-among f p n at out st o s h k r e =
+    let q : p + (n - p) ≡ n = omega arith in
+    let w : length (joined (each f p)) ≤ length (joined (each f n)) = rw q at (prefix f p (n - p)) in
+    let x : Room (each f p ++ []) 0 st out = rw (append-nil (each f p)) record { noted = r .noted; within = omega (arith, r .within); long = r .long; clear = r .clear } in
+    record { place = omega arith; room = room-then (each f p) [] 1 0 at out st o s x e }
+
+-- what the writers are lent
+pub next-lent : {p at : ℕ} {st out : List ℕ} → Next p at st out → (32 ≤ length (lent at out)) × (zeros (lent at out) ≡ true)
+unfolding joined
+next-lent {p} {at} {st} {out} n = let r = n .room in (rw (length-lent at out) (omega (arith, r .within, r .long)), rw (rest at out) (r .clear))
+
+pub next-within : {p at : ℕ} {st out : List ℕ} → Next p at st out → at ≤ length out
+next-within n = omega (arith, n .room .within, n .room .long)
+
+pub end-fits : {p at : ℕ} {st out : List ℕ} → Next p at st out → length out < 2 ^ 64 → (n : ℕ) (s ys : List ℕ) → (n, ys) ≡ put s (lent at out) → Fits w64 (at + n)
+end-fits {p} {at} {st} {out} x h n s ys e = fits-behind (put-behind at n s out ys (next-within x) e) refl h
 
 pub length-ends : (b : ℕ) (ss : List (List ℕ)) → length (endsFrom b ss) ≡ length ss
 unfolding endsFrom

@@ -5,7 +5,7 @@
 use Prim.Native.Nat.{ℕ, zero, suc, _≤_, _<_}
 use mathlib.Core.List.{List, [], _∷_, _++_}
 use mathlib.Core.Option.{none, some}
-use mathlib.Core.Path.{_≡_, refl, ap₂, _∙_}
+use mathlib.Core.Path.{_≡_, refl, ap, ap₂, _∙_}
 use mathlib.Core.Bool.{Bool, true, false, not}
 use native.Mathlib.Omega.{arith}
 use lib.ListN.{length, getD, take, length-take}
@@ -32,8 +32,8 @@ use Rattle.wire.proofs.Put.{is-due, number-is-due}
 use Rattle.order.specs.Order.{catalogueOrder}
 use Rattle.writer.specs.Writing.{reservedBytes, parameterAt, extension}
 use Rattle.address.specs.Address.{addressBytes}
-use Rattle.writer.specs.Laid.{laid}
-use Rattle.writer.proofs.Laid.{laid-then}
+use Rattle.writer.specs.Laid.{laid, five, Room}
+use Rattle.writer.proofs.Laid.{Laid, laid-then}
 
 pub record Formed (r : TransportParameters) : Type 0 where
   pub numbers : length (r .numbers) ≡ 11
@@ -111,21 +111,19 @@ each-same f g zero h = refl
 each-same f g (suc n) h = ap₂ (λ (ss : List (List ℕ)) (s : List ℕ). ss ++ (s ∷ [])) (each-same f g n (λ p k. h p (omega arith))) (h n (omega arith))
 
 module _ (r : TransportParameters) where
+  -- what the code lays at places 11 to 15, and 16 to 20
   abbrev pub from11 : List (List ℕ)
   from11 =
       dueValue (r .«grease_transport_parameter» .present) (r .«grease_transport_parameter» .id) (take (r .«grease_transport_parameter» .«payload_len») (r .«grease_transport_parameter» .payload))
       ∷ dueValue (r .«stateless_reset_token» .present) (idAt 12) (r .«stateless_reset_token» .token .bytes)
-      ∷ dueValue (r .«disable_active_migration») (idAt 13) [] ∷ []
+      ∷ dueValue (r .«disable_active_migration») (idAt 13) []
+      ∷ dueNumber (isPresent (r .«max_datagram_frame_size»)) (idAt 14) (least (r .«max_datagram_frame_size»))
+      ∷ dueValue (r .«preferred_address» .present) (idAt 15) (addressBytes (r .«preferred_address»)) ∷ []
 
-  abbrev pub from14 : List (List ℕ)
-  from14 =
-      dueNumber (isPresent (r .«max_datagram_frame_size»)) (idAt 14) (least (r .«max_datagram_frame_size»))
-      ∷ dueValue (r .«preferred_address» .present) (idAt 15) (addressBytes (r .«preferred_address»))
-      ∷ dueValue (r .«original_dst_cid» .present) (idAt 16) (cidBytes (r .«original_dst_cid» .cid)) ∷ []
-
-  abbrev pub from17 : List (List ℕ)
-  from17 =
-      dueValue (r .«initial_src_cid» .present) (idAt 17) (cidBytes (r .«initial_src_cid» .cid))
+  abbrev pub from16 : List (List ℕ)
+  from16 =
+      dueValue (r .«original_dst_cid» .present) (idAt 16) (cidBytes (r .«original_dst_cid» .cid))
+      ∷ dueValue (r .«initial_src_cid» .present) (idAt 17) (cidBytes (r .«initial_src_cid» .cid))
       ∷ dueValue (r .«retry_src_cid» .present) (idAt 18) (cidBytes (r .«retry_src_cid» .cid))
       ∷ dueValue (r .«grease_quic_bit») (idAt 19) []
       ∷ dueNumber (isPresent (r .«min_ack_delay»)) (idAt 20) (least (r .«min_ack_delay»)) ∷ []
@@ -141,35 +139,61 @@ module _ (r : TransportParameters) where
         let n : eqb p 11 ≡ false = ne-eqb p 11 (omega arith) in
         rw (n, lt-ltb p 11 h) (number-out (idAt p) (getD defaults p 0) (getD (r .numbers) p 0) (id-lt p (omega arith) n) (number-lt r w p h))
 
-    others-out : from11 ++ (from14 ++ from17)
-        ≡ parameterAt r 11 ∷ parameterAt r 12 ∷ parameterAt r 13 ∷ parameterAt r 14 ∷ parameterAt r 15 ∷ parameterAt r 16
-        ∷ parameterAt r 17 ∷ parameterAt r 18 ∷ parameterAt r 19 ∷ parameterAt r 20 ∷ []
-    unfolding parameterAt valuesOf otherValues tokenOut flagOut addressOut cidOut wellFormed
-    others-out =
+    -- a value of a place whose identifier is its own
+    at-place : (p : ℕ) (b : Bool) (v : List ℕ) → p < places → eqb p 11 ≡ false → IfSome (Sound (Families r) (kindAt p)) (pick b (some v) none)
+        → dueValue b (idAt p) v ≡ parameterIf (idAt p) (pick b (some v) none)
+    at-place p b v h n s = value-out (Families r) (kindAt p) (idAt p) b v (id-lt p h n) s
+
+    five-11 : from11 ≡ five r 11
+    unfolding five parameterAt valuesOf otherValues tokenOut flagOut addressOut wellFormed
+    five-11 =
         rw (
           reserved-out _ (all-at _ w 2),
-          value-out (Families r) (kindAt 12) (idAt 12) _ _ (id-lt 12 (omega arith) refl) (sound r w 12),
-          value-out (Families r) (kindAt 13) (idAt 13) _ _ (id-lt 13 (omega arith) refl) (sound r w 13),
+          at-place 12 _ _ (omega arith) refl (sound r w 12),
+          at-place 13 _ _ (omega arith) refl (sound r w 13),
           optional-out (idAt 14) _ (id-lt 14 (omega arith) refl) (all-at _ w 4),
-          value-out (Families r) (kindAt 15) (idAt 15) _ _ (id-lt 15 (omega arith) refl) (sound r w 15),
-          value-out (Families r) (kindAt 16) (idAt 16) _ _ (id-lt 16 (omega arith) refl) (sound r w 16),
-          value-out (Families r) (kindAt 17) (idAt 17) _ _ (id-lt 17 (omega arith) refl) (sound r w 17),
-          value-out (Families r) (kindAt 18) (idAt 18) _ _ (id-lt 18 (omega arith) refl) (sound r w 18),
-          value-out (Families r) (kindAt 19) (idAt 19) _ _ (id-lt 19 (omega arith) refl) (sound r w 19),
+          at-place 15 _ _ (omega arith) refl (sound r w 15),
+        )
+
+    five-16 : from16 ≡ five r 16
+    unfolding five parameterAt valuesOf otherValues flagOut cidOut wellFormed
+    five-16 =
+        rw (
+          at-place 16 _ _ (omega arith) refl (sound r w 16),
+          at-place 17 _ _ (omega arith) refl (sound r w 17),
+          at-place 18 _ _ (omega arith) refl (sound r w 18),
+          at-place 19 _ _ (omega arith) refl (sound r w 19),
           optional-out (idAt 20) _ (id-lt 20 (omega arith) refl) (all-at _ w 9),
         )
 
-    pub all-places : each (numberAt (r .numbers)) 11 ++ (from11 ++ (from14 ++ from17)) ≡ each (parameterAt r) places
-    unfolding each
-    all-places = ap₂ (λ (ss ts : List (List ℕ)). ss ++ ts) (each-same (numberAt (r .numbers)) (parameterAt r) 11 numbers-out) others-out
+    pub room-11 : (at : ℕ) (st out : List ℕ) → Room (five r 11) at st out → Room from11 at st out
+    room-11 at st out x = rw five-11 x
 
-    -- all four parts, one after another
-    pub whole-catalogue : (a b e n : ℕ) (out st o₁ s₁ o₂ s₂ o₃ s₃ o₄ s₄ : List ℕ) → (a, o₁, s₁) ≡ laid (each (numberAt (r .numbers)) 11) 1 0 out st
-        → (b, o₂, s₂) ≡ laid from11 12 a o₁ s₁ → (e, o₃, s₃) ≡ laid from14 15 b o₂ s₂ → (n, o₄, s₄) ≡ laid from17 18 e o₃ s₃
-        → (n, o₄, s₄) ≡ laid (each (parameterAt r) places) 1 0 out st
-    whole-catalogue a b e n out st o₁ s₁ o₂ s₂ o₃ s₃ o₄ s₄ e₁ e₂ e₃ e₄ =
-        e₄
-        ∙ laid-then from14 from17 15 18 b e o₂ s₂ o₃ s₃ refl e₃
-        ∙ laid-then from11 (from14 ++ from17) 12 15 a b o₁ s₁ o₂ s₂ refl e₂
-        ∙ laid-then (each (numberAt (r .numbers)) 11) (from11 ++ (from14 ++ from17)) 1 12 0 a out st o₁ s₁ (rw (length-each (numberAt (r .numbers)) 11)) e₁
+    pub room-16 : (at : ℕ) (st out : List ℕ) → Room (five r 16) at st out → Room from16 at st out
+    room-16 at st out x = rw five-16 x
+
+    pub laid-11 : (k at : ℕ) (out st : List ℕ) {x : Laid} → x ≡ laid from11 k at out st → x ≡ laid (five r 11) k at out st
+    laid-11 k at out st e = rw (← five-11) e
+
+    pub laid-16 : (k at : ℕ) (out st : List ℕ) {x : Laid} → x ≡ laid from16 k at out st → x ≡ laid (five r 16) k at out st
+    laid-16 k at out st e = rw (← five-16) e
+
+    all-places : each (numberAt (r .numbers)) 11 ++ (five r 11 ++ five r 16) ≡ each (parameterAt r) places
+    unfolding each five
+    all-places = ap (λ (ss : List (List ℕ)). ss ++ (five r 11 ++ five r 16)) (each-same (numberAt (r .numbers)) (parameterAt r) 11 numbers-out)
+
+    pub all-due : each (numberAt (r .numbers)) 11 ++ (from11 ++ from16) ≡ each (parameterAt r) places
+    all-due = ap₂ (λ (ss ts : List (List ℕ)). each (numberAt (r .numbers)) 11 ++ (ss ++ ts)) five-11 five-16 ∙ all-places
+
+    pub room-all : (at : ℕ) (st out : List ℕ) → Room (each (parameterAt r) places) at st out → Room (each (numberAt (r .numbers)) 11 ++ (five r 11 ++ five r 16)) at st out
+    room-all at st out x = rw all-places x
+
+    -- all three parts, one after another
+    pub whole-catalogue : (a b n : ℕ) (out st o₁ s₁ o₂ s₂ o₃ s₃ : List ℕ) → (a, o₁, s₁) ≡ laid (each (numberAt (r .numbers)) 11) 1 0 out st
+        → (b, o₂, s₂) ≡ laid (five r 11) 12 a o₁ s₁ → (n, o₃, s₃) ≡ laid (five r 16) 17 b o₂ s₂
+        → (n, o₃, s₃) ≡ laid (each (parameterAt r) places) 1 0 out st
+    whole-catalogue a b n out st o₁ s₁ o₂ s₂ o₃ s₃ e₁ e₂ e₃ =
+        e₃
+        ∙ laid-then (five r 11) (five r 16) 12 17 a b o₁ s₁ o₂ s₂ (unfold five in refl) e₂
+        ∙ laid-then (each (numberAt (r .numbers)) 11) (five r 11 ++ five r 16) 1 12 0 a out st o₁ s₁ (rw (length-each (numberAt (r .numbers)) 11)) e₁
         ∙ rw all-places

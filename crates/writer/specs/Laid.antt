@@ -7,7 +7,10 @@ use lib.ListN.{length, getD, take, drop, set}
 use Rattle.refusal.specs.Outcome.{pick}
 use Rattle.catalogue.specs.Catalogue.{places}
 use Rattle.wire.specs.Wire.{put}
-use Rattle.writer.specs.Writing.{concatOf}
+use Rattle.record.specs.declared.TransportParameters.{TransportParameters}
+use Rattle.words.specs.Words.{zeros}
+use Rattle.wire.specs.Stored.{joined}
+use Rattle.writer.specs.Writing.{parameterAt, concatOf, maxExtension}
 
 -- parameters behind the first `at` bytes of a buffer, and their ends from entry k of the notes on: how far they go, the buffer, the notes
 unfoldable pub laid : List (List ℕ) → ℕ → ℕ → List ℕ → List ℕ → ℕ × List ℕ × List ℕ
@@ -19,6 +22,29 @@ laid (s ∷ ss) k at out starts =
 unfoldable pub endsFrom : ℕ → List (List ℕ) → List ℕ
 endsFrom b [] = []
 endsFrom b (s ∷ ss) = (b + length s) ∷ endsFrom (b + length s) ss
+
+-- the parameters due at five places
+unfoldable pub five : TransportParameters → ℕ → List (List ℕ)
+five r p = parameterAt r p ∷ parameterAt r (p + 1) ∷ parameterAt r (p + 2) ∷ parameterAt r (p + 3) ∷ parameterAt r (p + 4) ∷ []
+
+-- a field whose first n bytes are a value, with zeros behind it
+pub record Field (n : ℕ) (v : List ℕ) : Type 0 where
+  pub long : 8 ≤ length v
+  pub short : length v ≤ 23
+  pub within : n ≤ length v
+  pub clear : zeros (drop n v) ≡ true
+
+-- room for the parameters still to be laid, zeros from there on and 32 bytes more; and an entry for each end
+pub record Room (ss : List (List ℕ)) (at : ℕ) (starts out : List ℕ) : Type 0 where
+  pub noted : length starts ≡ places + 1
+  pub within : at + length (joined ss) ≤ maxExtension
+  pub long : maxExtension + 32 ≤ length out
+  pub clear : zeros (drop at out) ≡ true
+
+-- the same before the parameter of a place
+pub record Next (p at : ℕ) (starts out : List ℕ) : Type 0 where
+  pub place : p < places
+  pub room : Room [] at starts out
 
 -- the parameter at place p, of parts whose places start where the list says
 unfoldable pub partAt : List ℕ → List ℕ → ℕ → List ℕ

@@ -6,7 +6,6 @@ ghost use Prim.Native.Nat.{_+_, _<_, _≤_};
 ghost use lib.ListN.{length, take, drop};
 ghost use Rattle.refusal.specs.Outcome.{pick, front, store};
 ghost use Rattle.refusal.specs.Answer.{countOutcome};
-ghost use Rattle.words.specs.Words.{zeros, bytesOf};
 ghost use Rattle.connection_id.specs.ConnectionId.{cidBytes, formedCid};
 ghost use Rattle.catalogue.specs.Catalogue.{places, idAt};
 ghost use Rattle.record.specs.Record.{isPresent, least, formedOptionalCid, formedAddress, formedReserved, wellFormed};
@@ -14,9 +13,8 @@ ghost use Rattle.order.specs.Order.{permutation, catalogueOrder};
 ghost use Rattle.wire.specs.Wire.{put, dueValue, dueNumber, numberAt};
 ghost use Rattle.wire.specs.Stored.{Wrote, each};
 ghost use Rattle.address.specs.Address.{addressBytes};
-ghost use Rattle.laying.specs.Laying.{Open};
 ghost use Rattle.writer.specs.Writing.{parameterAt, concatOf, write};
-ghost use Rattle.writer.specs.Laid.{laid, partAt, InOrder, Fit, Front, bytesIn, Ready};
+ghost use Rattle.writer.specs.Laid.{laid, five, Field, Room, Next, partAt, InOrder, Fit, Front, bytesIn, Ready};
 use address::put_address;
 use catalogue::DEFAULTS;
 use catalogue::DISABLE_ACTIVE_MIGRATION;
@@ -36,6 +34,7 @@ use catalogue::ORIGINAL_DST_CID;
 use catalogue::ORIGINAL_DST_CID_ID;
 use catalogue::PLACES;
 use catalogue::PREFERRED_ADDRESS;
+use catalogue::RESERVED;
 use catalogue::RETRY_SRC_CID;
 use catalogue::RETRY_SRC_CID_ID;
 use catalogue::STATELESS_RESET_TOKEN;
@@ -61,178 +60,242 @@ const BLOCK: usize = 16;
 // Room for any extension, and for what writers and copies store behind it.
 const SCRATCH: usize = MAX_EXTENSION + 32;
 
-// Each stores a parameter, if it is present, or nothing where there is no room. The buffer is all zeros, so that a writer may store zeros behind
-// its parameter: fields are stored whole, and numbers without a branch on their width.
-fn put_cid(id: u64, o: OptionalConnectionId, out: &mut [u8]) -> usize
-    requires { ⌜ (formedOptionalCid o ≡ true) × (32 ≤ length (now out)) × (zeros (now out) ≡ true) ⌝ }
-    ensures { λ r. ⌜ (r, now (out .exit)) ≡ put (dueValue (o .present) id (cidBytes (o .cid))) (now (out .entry)) ⌝ }
+// Each lays the parameter due at a place, if it is, behind the first `at` bytes, notes where the next place starts, and gives that. The buffer is zeros
+// from there on, so that zeros may be stored behind a parameter: fields are stored whole, and numbers without a branch on their width.
+fn put_number(
+    p: usize,
+    due: bool,
+    id: u64,
+    x: u64,
+    at: usize,
+    starts: &mut [usize; PLACES + 1],
+    out: &mut [u8],
+) -> usize
+    requires { ⌜ Next p at (now starts) (now out) ⌝ }
+    ensures { λ r. ⌜ (r, now (out .exit), now (starts .exit)) ≡ laid (dueNumber due id x ∷ []) (p + 1) at (now (out .entry)) (now (starts .entry)) ⌝ }
+{
+    let end = at + lay_number(due, id, x, &mut out[at..]);
+    starts[p + 1] = end;
+    end
+}
+
+fn put_field(
+    p: usize,
+    due: bool,
+    id: u64,
+    n: usize,
+    v: &[u8],
+    at: usize,
+    starts: &mut [usize; PLACES + 1],
+    out: &mut [u8],
+) -> usize
+    requires { ⌜ Field n (now v) × Next p at (now starts) (now out) ⌝ }
+    ensures { λ r. ⌜ (r, now (out .exit), now (starts .exit)) ≡ laid (dueValue due id (take n (now (v .entry))) ∷ []) (p + 1) at (now (out .entry)) (now (starts .entry)) ⌝ }
+{
+    let end = at + lay_field(due, id, n, v, &mut out[at..]);
+    starts[p + 1] = end;
+    end
+}
+
+fn put_preferred(
+    a: PreferredAddress,
+    at: usize,
+    starts: &mut [usize; PLACES + 1],
+    out: &mut [u8],
+) -> usize
+    requires { ⌜ (formedAddress a ≡ true) × Next 15 at (now starts) (now out) ⌝ }
+    ensures { λ r. ⌜ (r, now (out .exit), now (starts .exit)) ≡ laid (dueValue (a .present) (idAt 15) (addressBytes a) ∷ []) 16 at (now (out .entry)) (now (starts .entry)) ⌝ }
+{
+    let end = at + put_address(a, &mut out[at..]);
+    starts[PREFERRED_ADDRESS + 1] = end;
+    end
+}
+
+fn put_cid(
+    p: usize,
+    id: u64,
+    o: OptionalConnectionId,
+    at: usize,
+    starts: &mut [usize; PLACES + 1],
+    out: &mut [u8],
+) -> usize
+    requires { ⌜ (formedOptionalCid o ≡ true) × Next p at (now starts) (now out) ⌝ }
+    ensures { λ r. ⌜ (r, now (out .exit), now (starts .exit)) ≡ laid (dueValue (o .present) id (cidBytes (o .cid)) ∷ []) (p + 1) at (now (out .entry)) (now (starts .entry)) ⌝ }
 {
     let n = size(o.cid.len);
     let bytes = o.cid.bytes;
-    lay_field(o.present, id, n, &bytes, out)
+    put_field(p, o.present, id, n, &bytes, at, starts, out)
 }
 
-fn put_reserved(x: ReservedTransportParameter, out: &mut [u8]) -> usize
-    requires { ⌜ (formedReserved x ≡ true) × (32 ≤ length (now out)) × (zeros (now out) ≡ true) ⌝ }
-    ensures { λ r. ⌜ (r, now (out .exit)) ≡ put (dueValue (x .present) (x .id) (take (x .«payload_len») (x .payload))) (now (out .entry)) ⌝ }
+fn put_reserved(
+    x: ReservedTransportParameter,
+    at: usize,
+    starts: &mut [usize; PLACES + 1],
+    out: &mut [u8],
+) -> usize
+    requires { ⌜ (formedReserved x ≡ true) × Next 11 at (now starts) (now out) ⌝ }
+    ensures { λ r. ⌜ (r, now (out .exit), now (starts .exit)) ≡ laid (dueValue (x .present) (x .id) (take (x .«payload_len») (x .payload)) ∷ []) 12 at (now (out .entry)) (now (starts .entry)) ⌝ }
 {
-    let payload = x.payload;
     let n = size(x.payload_len);
-    lay_field(x.present, x.id, n, &payload, out)
+    let payload = x.payload;
+    put_field(RESERVED, x.present, x.id, n, &payload, at, starts, out)
 }
 
-fn put_token(t: OptionalResetToken, out: &mut [u8]) -> usize
-    requires { ⌜ (length (t .token .bytes) ≡ 16) × (32 ≤ length (now out)) × (zeros (now out) ≡ true) ⌝ }
-    ensures { λ r. ⌜ (r, now (out .exit)) ≡ put (dueValue (t .present) (idAt 12) (t .token .bytes)) (now (out .entry)) ⌝ }
+fn put_token(
+    t: OptionalResetToken,
+    at: usize,
+    starts: &mut [usize; PLACES + 1],
+    out: &mut [u8],
+) -> usize
+    requires { ⌜ (length (t .token .bytes) ≡ 16) × Next 12 at (now starts) (now out) ⌝ }
+    ensures { λ r. ⌜ (r, now (out .exit), now (starts .exit)) ≡ laid (dueValue (t .present) (idAt 12) (t .token .bytes) ∷ []) 13 at (now (out .entry)) (now (starts .entry)) ⌝ }
 {
     let bytes = t.token.bytes;
-    lay_field(
+    put_field(
+        STATELESS_RESET_TOKEN,
         t.present,
         STATELESS_RESET_TOKEN_ID,
         ResetToken::SIZE,
         &bytes,
+        at,
+        starts,
         out,
     )
 }
 
-fn put_flag(id: u64, flag: bool, out: &mut [u8]) -> usize
-    requires { ⌜ (32 ≤ length (now out)) × (zeros (now out) ≡ true) ⌝ }
-    ensures { λ r. ⌜ (r, now (out .exit)) ≡ put (dueValue flag id []) (now (out .entry)) ⌝ }
+fn put_flag(
+    p: usize,
+    id: u64,
+    flag: bool,
+    at: usize,
+    starts: &mut [usize; PLACES + 1],
+    out: &mut [u8],
+) -> usize
+    requires { ⌜ Next p at (now starts) (now out) ⌝ }
+    ensures { λ r. ⌜ (r, now (out .exit), now (starts .exit)) ≡ laid (dueValue flag id [] ∷ []) (p + 1) at (now (out .entry)) (now (starts .entry)) ⌝ }
 {
-    lay_field(flag, id, 0, &[0; 8], out)
+    put_field(p, flag, id, 0, &[0; 8], at, starts, out)
 }
 
-fn put_optional(id: u64, o: OptionalNumber, out: &mut [u8]) -> usize
-    requires { ⌜ (32 ≤ length (now out)) × (zeros (now out) ≡ true) ⌝ }
-    ensures { λ r. ⌜ (r, now (out .exit)) ≡ put (dueNumber (isPresent o) id (least o)) (now (out .entry)) ⌝ }
+fn put_optional(
+    p: usize,
+    id: u64,
+    o: OptionalNumber,
+    at: usize,
+    starts: &mut [usize; PLACES + 1],
+    out: &mut [u8],
+) -> usize
+    requires { ⌜ Next p at (now starts) (now out) ⌝ }
+    ensures { λ r. ⌜ (r, now (out .exit), now (starts .exit)) ≡ laid (dueNumber (isPresent o) id (least o) ∷ []) (p + 1) at (now (out .entry)) (now (starts .entry)) ⌝ }
 {
-    lay_number(o.is_present(), id, o.or_zero(), out)
+    put_number(p, o.is_present(), id, o.or_zero(), at, starts, out)
 }
 
-// Each lays the parameters due at some places behind the first `at` bytes, and notes where the places after them start.
+// Each lays those due at some places.
 fn put_numbers(numbers: &[u64; NUMBERS], starts: &mut [usize; PLACES + 1], out: &mut [u8]) -> usize
-    requires { ⌜ (length (now numbers) ≡ 11) × (length (now starts) ≡ places + 1) × Open 0 0 (now out) ⌝ }
-    ensures { λ r. ⌜ ((r, now (out .exit), now (starts .exit))
-        ≡ laid (each (numberAt (now (numbers .entry))) 11) 1 0 (now (out .entry)) (now (starts .entry)))
-        × Open 110 r (now (out .exit)) ⌝ }
+    requires { ⌜ (length (now numbers) ≡ 11) × Room (each (numberAt (now numbers)) 11) 0 (now starts) (now out) ⌝ }
+    ensures { λ r. ⌜ (r, now (out .exit), now (starts .exit)) ≡ laid (each (numberAt (now (numbers .entry))) 11) 1 0 (now (out .entry)) (now (starts .entry)) ⌝ }
 {
     let ids = IDS;
     let defaults = DEFAULTS;
     let mut at: usize = 0;
-    let mut i: usize = 0;
-    while i < NUMBERS {
-        at += lay_number(
-            numbers[i] != defaults[i],
-            ids[i],
-            numbers[i],
-            &mut out[at..],
+    let mut p: usize = 0;
+    while p < NUMBERS {
+        at = put_number(
+            p,
+            numbers[p] != defaults[p],
+            ids[p],
+            numbers[p],
+            at,
+            starts,
+            out,
         );
-        i += 1;
-        starts[i] = at;
+        p += 1;
     }
     at
 }
 
-fn put_11_to_13(
-    x: ReservedTransportParameter,
-    t: OptionalResetToken,
-    migration: bool,
+fn put_11_to_15(
+    r: TransportParameters,
     at: usize,
     starts: &mut [usize; PLACES + 1],
     out: &mut [u8],
 ) -> usize
-    requires { ⌜ (formedReserved x ≡ true) × (length (t .token .bytes) ≡ 16) × (length (now starts) ≡ places + 1) × Open 110 at (now out) ⌝ }
-    ensures { λ r. ⌜ ((r, now (out .exit), now (starts .exit))
-        ≡ laid (dueValue (x .present) (x .id) (take (x .«payload_len») (x .payload)) ∷ dueValue (t .present) (idAt 12) (t .token .bytes)
-        ∷ dueValue migration (idAt 13) [] ∷ []) 12 at (now (out .entry)) (now (starts .entry)))
-        × Open 155 r (now (out .exit)) ⌝ }
+    requires { ⌜ (wellFormed r ≡ true) × Room (five r 11) at (now starts) (now out) ⌝ }
+    ensures { λ n. ⌜ (n, now (out .exit), now (starts .exit)) ≡ laid (five r 11) 12 at (now (out .entry)) (now (starts .entry)) ⌝ }
 {
-    let a = at + put_reserved(x, &mut out[at..]);
-    let b = a + put_token(t, &mut out[a..]);
-    let end = b + put_flag(DISABLE_ACTIVE_MIGRATION_ID, migration, &mut out[b..]);
-    starts[STATELESS_RESET_TOKEN] = a;
-    starts[DISABLE_ACTIVE_MIGRATION] = b;
-    starts[MAX_DATAGRAM_FRAME_SIZE] = end;
-    end
+    let migration = r.disable_active_migration;
+    let datagram = r.max_datagram_frame_size;
+    let a = put_reserved(r.grease_transport_parameter, at, starts, out);
+    let b = put_token(r.stateless_reset_token, a, starts, out);
+    let c = put_flag(
+        DISABLE_ACTIVE_MIGRATION,
+        DISABLE_ACTIVE_MIGRATION_ID,
+        migration,
+        b,
+        starts,
+        out,
+    );
+    let d = put_optional(
+        MAX_DATAGRAM_FRAME_SIZE,
+        MAX_DATAGRAM_FRAME_SIZE_ID,
+        datagram,
+        c,
+        starts,
+        out,
+    );
+    put_preferred(r.preferred_address, d, starts, out)
 }
 
-fn put_14_to_16(
-    d: OptionalNumber,
-    p: PreferredAddress,
-    original: OptionalConnectionId,
+fn put_16_to_20(
+    r: TransportParameters,
     at: usize,
     starts: &mut [usize; PLACES + 1],
     out: &mut [u8],
 ) -> usize
-    requires { ⌜ (formedAddress p ≡ true) × (formedOptionalCid original ≡ true) × (length (now starts) ≡ places + 1) × Open 155 at (now out) ⌝ }
-    ensures { λ r. ⌜ ((r, now (out .exit), now (starts .exit))
-        ≡ laid (dueNumber (isPresent d) (idAt 14) (least d) ∷ dueValue (p .present) (idAt 15) (addressBytes p)
-        ∷ dueValue (original .present) (idAt 16) (cidBytes (original .cid)) ∷ []) 15 at (now (out .entry)) (now (starts .entry)))
-        × Open 250 r (now (out .exit)) ⌝ }
+    requires { ⌜ (wellFormed r ≡ true) × Room (five r 16) at (now starts) (now out) ⌝ }
+    ensures { λ n. ⌜ (n, now (out .exit), now (starts .exit)) ≡ laid (five r 16) 17 at (now (out .entry)) (now (starts .entry)) ⌝ }
 {
-    let a = at + put_optional(MAX_DATAGRAM_FRAME_SIZE_ID, d, &mut out[at..]);
-    let b = a + put_address(p, &mut out[a..]);
-    let end = b + put_cid(ORIGINAL_DST_CID_ID, original, &mut out[b..]);
-    starts[PREFERRED_ADDRESS] = a;
-    starts[ORIGINAL_DST_CID] = b;
-    starts[INITIAL_SRC_CID] = end;
-    end
-}
-
-fn put_17_to_20(
-    initial: OptionalConnectionId,
-    retry: OptionalConnectionId,
-    grease: bool,
-    delay: OptionalNumber,
-    at: usize,
-    starts: &mut [usize; PLACES + 1],
-    out: &mut [u8],
-) -> usize
-    requires { ⌜ (formedOptionalCid initial ≡ true) × (formedOptionalCid retry ≡ true) × (length (now starts) ≡ places + 1) × Open 250 at (now out) ⌝ }
-    ensures { λ r. ⌜ ((r, now (out .exit), now (starts .exit))
-        ≡ laid (dueValue (initial .present) (idAt 17) (cidBytes (initial .cid)) ∷ dueValue (retry .present) (idAt 18) (cidBytes (retry .cid))
-        ∷ dueValue grease (idAt 19) [] ∷ dueNumber (isPresent delay) (idAt 20) (least delay) ∷ []) 18 at (now (out .entry)) (now (starts .entry)))
-        × Open 320 r (now (out .exit)) ⌝ }
-{
-    let a = at + put_cid(INITIAL_SRC_CID_ID, initial, &mut out[at..]);
-    let b = a + put_cid(RETRY_SRC_CID_ID, retry, &mut out[a..]);
-    let e = b + put_flag(GREASE_QUIC_BIT_ID, grease, &mut out[b..]);
-    let end = e + put_optional(MIN_ACK_DELAY_ID, delay, &mut out[e..]);
-    starts[RETRY_SRC_CID] = a;
-    starts[GREASE_QUIC_BIT] = b;
-    starts[MIN_ACK_DELAY] = e;
-    starts[PLACES] = end;
-    end
-}
-
-// Lays the parameters due in catalogue order, and notes where each place but the first starts.
-fn put_catalogue(r: TransportParameters, starts: &mut [usize; PLACES + 1], out: &mut [u8]) -> usize
-    requires { ⌜ (wellFormed r ≡ true) × (length (now starts) ≡ places + 1) × Open 0 0 (now out) ⌝ }
-    ensures { λ n. ⌜ (n, now (out .exit), now (starts .exit))
-        ≡ laid (each (parameterAt r) places) 1 0 (now (out .entry)) (now (starts .entry)) ⌝ }
-{
-    let numbers = r.numbers;
-    let d = r.max_datagram_frame_size;
+    let grease = r.grease_quic_bit;
     let delay = r.min_ack_delay;
-    let a = put_numbers(&numbers, starts, out);
-    let b = put_11_to_13(
-        r.grease_transport_parameter,
-        r.stateless_reset_token,
-        r.disable_active_migration,
+    let a = put_cid(
+        ORIGINAL_DST_CID,
+        ORIGINAL_DST_CID_ID,
+        r.original_dst_cid,
+        at,
+        starts,
+        out,
+    );
+    let b = put_cid(
+        INITIAL_SRC_CID,
+        INITIAL_SRC_CID_ID,
+        r.initial_src_cid,
         a,
         starts,
         out,
     );
-    let e = put_14_to_16(d, r.preferred_address, r.original_dst_cid, b, starts, out);
-    put_17_to_20(
-        r.initial_src_cid,
+    let c = put_cid(
+        RETRY_SRC_CID,
+        RETRY_SRC_CID_ID,
         r.retry_src_cid,
-        r.grease_quic_bit,
-        delay,
-        e,
+        b,
         starts,
         out,
-    )
+    );
+    let d = put_flag(GREASE_QUIC_BIT, GREASE_QUIC_BIT_ID, grease, c, starts, out);
+    put_optional(MIN_ACK_DELAY, MIN_ACK_DELAY_ID, delay, d, starts, out)
+}
+
+// Lays all in catalogue order.
+fn put_catalogue(r: TransportParameters, starts: &mut [usize; PLACES + 1], out: &mut [u8]) -> usize
+    requires { ⌜ (wellFormed r ≡ true) × Room (each (parameterAt r) places) 0 (now starts) (now out) ⌝ }
+    ensures { λ n. ⌜ (n, now (out .exit), now (starts .exit))
+        ≡ laid (each (parameterAt r) places) 1 0 (now (out .entry)) (now (starts .entry)) ⌝ }
+{
+    let numbers = r.numbers;
+    let a = put_numbers(&numbers, starts, out);
+    let b = put_11_to_15(r, a, starts, out);
+    put_16_to_20(r, b, starts, out)
 }
 
 // Stores the `len` bytes of `parts` from `from` on. Where sixteen more are still to come behind them, of the `room` there is, they are copied

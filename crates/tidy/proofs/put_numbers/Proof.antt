@@ -1,5 +1,5 @@
 -- `tidy::put_numbers` meets its contract. The invariant: the first `i` places are laid. Assumes nothing.
-use Prim.Native.Nat.{_≤_, _-_, _+_}
+use Prim.Native.Nat.{_≤_, _-_}
 use native.Mathlib.Omega.{arith}
 use mathlib.Core.List.{[]}
 use mathlib.Core.Path.{_≡_, refl, _∙_}
@@ -9,7 +9,7 @@ use Rattle.wire.specs.Wire.{numberAt}
 use Rattle.wire.specs.Stored.{each}
 use Rattle.wire.proofs.Put.{Behind, put-behind}
 use Rattle.writer.specs.Laid.{laid}
-use Rattle.writer.proofs.Laid.{number-more}
+use Rattle.writer.proofs.Laid.{laid-one, laid-more}
 use borrow.Author.Needs.{needs}
 use Rattle.tidy.proofs.put_numbers.Statement.{statement}
 use Rattle.tidy.proofs.put_numbers.Tie as tie
@@ -37,7 +37,7 @@ loop-again c =
     let l = c .before .before .before .before .before .before .before .loop in
     let a = c .before .before .before .before .before .before .before .before .before .args in
     let k = kept c in
-    (omega arith, k .within, k .same ∙ l .inv .2, number-more (numberAt (a .kept .now)) (l .i) (l .at) _ (a .out .now) [] (l .out) [] _ (l .inv .3) (c .before .before .put-number .ensures))
+    (omega arith, k .within, k .same ∙ l .inv .2, laid-more (numberAt (a .kept .now)) (l .i) 1 0 (l .at) _ (a .out .now) [] (l .out) [] _ [] (l .inv .3) (laid-one _ _ _ _ _ _ [] (c .before .before .put-number .ensures)))
 
 same-length : tie.Need-same-length Inv-loop μ-loop
 same-length c = c .before .loop .inv .2

@@ -1,12 +1,14 @@
 -- `writer::put_reserved` meets its contract. Assumes nothing.
-use Rattle.writer.proofs.Parts.{reserved-laid}
-use mathlib.Core.Path.{_∙_}
+use Rattle.writer.proofs.Parts.{reserved-field}
 use borrow.Author.Needs.{needs}
 use Rattle.writer.proofs.put_reserved.Statement.{statement}
 use Rattle.writer.proofs.put_reserved.Tie as tie
 
+put-field-requires : tie.Need-put-field-requires
+put-field-requires c κs = (reserved-field _ _ (c .before .before .before .before .before .before .pre .0) (c .before .before .before .before .size .ensures), c .before .before .before .before .before .before .pre .1)
+
 returns : tie.Need-returns
-returns c = let s = c .before .before .before .before .before .before .before .before in c .before .before .lay-field .ensures ∙ reserved-laid _ (s .args .x) (s .args .out .now) (s .pre .0) (s .pre .1) (s .pre .2) (c .before .before .before .before .before .size .ensures)
+returns c = rw (c .before .before .before .before .before .before .before .size .ensures) at (c .before .before .put-field .ensures)
 
 pub put-reserved-spec : {M : Type 1} → statement M
 put-reserved-spec =
@@ -14,6 +16,6 @@ put-reserved-spec =
     (tie.spec
     (λ c κs. search needs)
     (λ c. search needs)
-    (λ c κs. search needs)
+    put-field-requires
     (λ c. search needs)
     returns)

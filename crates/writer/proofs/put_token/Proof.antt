@@ -1,20 +1,24 @@
 -- `writer::put_token` meets its contract. Assumes nothing.
+use native.Mathlib.Omega.{arith}
+use lib.Seq.{take-all}
 use Rattle.catalogue.specs.Catalogue.{ids, idAt}
-use Rattle.writer.proofs.Parts.{token-laid}
-use mathlib.Core.Path.{_∙_}
+use Rattle.writer.proofs.Parts.{token-field}
 use borrow.Author.Needs.{needs}
 use Rattle.writer.proofs.put_token.Statement.{statement}
 use Rattle.writer.proofs.put_token.Tie as tie
 
+put-field-requires : tie.Need-put-field-requires
+put-field-requires c κs = (token-field _ (c .before .before .before .before .before .pre .0), c .before .before .before .before .before .pre .1)
+
 returns : tie.Need-returns
 unfolding idAt ids
-returns c = let s = c .before .before .before .before .before .before .before in c .before .before .lay-field .ensures ∙ token-laid (s .args .t .present) 2 (s .args .t .token .bytes) (s .args .out .now) (s .pre .0) (s .pre .1) (s .pre .2)
+returns c = rw (take-all 16 (c .before .before .before .before .before .before .before .before .args .t .token .bytes) (omega (arith, c .before .before .before .before .before .before .before .before .pre .0))) at (c .before .before .put-field .ensures)
 
 pub put-token-spec : {M : Type 1} → statement M
 put-token-spec =
     tie.close
     (tie.spec
     (λ c. search needs)
-    (λ c κs. search needs)
+    put-field-requires
     (λ c. search needs)
     returns)

@@ -9,9 +9,11 @@ use borrow.Author.Tests.{not-true, not-false}
 use Rattle.refusal.specs.Outcome.{store}
 use Rattle.words.proofs.Laws.{zeros-replicate}
 use Rattle.record.specs.Record.{wellFormed}
-use Rattle.order.specs.Order.{permutation}
+use Rattle.order.specs.Order.{permutation, catalogueOrder}
+use Rattle.order.proofs.Orders.{in-catalogue}
+use Rattle.writer.proofs.Extension.{longest}
 use Rattle.writer.specs.Writing.{maxExtension, orderOf}
-use Rattle.writer.proofs.Places.{formed}
+use Rattle.writer.proofs.Places.{formed, in-catalogue-order}
 use Rattle.writer.proofs.Answers.{due, ready, write-ill, write-invalid, write-stored}
 use borrow.Author.Needs.{needs}
 use Rattle.writer.proofs.write.Statement.{statement}
@@ -36,7 +38,7 @@ unfolding orderOf
 returns-2 c = write-invalid _ _ (well (c .before .before .before .before)) (sym (c .before .is-order .ensures) ∙ not-true _ (c .if2 .taken))
 
 put-catalogue-requires : tie.Need-put-catalogue-requires
-put-catalogue-requires c κs = (well (c .before .before .before .before .before .before), refl, record { within = omega arith; long = omega arith; clear = zeros-replicate 346 })
+put-catalogue-requires c κs = let w = well (c .before .before .before .before .before .before) in (w, record { noted = refl; within = rw (in-catalogue-order (c .before .before .before .before .before .before .before .before .before .args .r)) (omega (arith, longest _ catalogueOrder w in-catalogue)); long = omega arith; clear = zeros-replicate 346 })
 
 put-laid-requires : tie.Need-put-laid-requires
 put-laid-requires c κs = ready (c .before .before .before .before .before .before .before .before .before .before .before .before .before .before .before .args .r) (well (c .before .before .before .before .before .before .before .before .before .before .before .before)) _ (replicate (maxExtension + 32) 0) _ _ (omega arith) (orderly (c .before .before .before .before .before .before .before .before)) (c .before .before .before .before .before .put-catalogue .ensures) (omega arith)
