@@ -1,6 +1,14 @@
 // Text: lines and words, hexadecimal and decimal; single bytes of a buffer; and, in `out`, printing.
-ghost use Prim.Native.Nat.{_-_, _≤_};
-ghost use lib.ListN.{length};
+ghost use mathlib.Core.Path.{_≡_};
+ghost use Prim.Native.Nat.{_+_, _-_, _*_, _≤_, _^_};
+ghost use lib.ListN.{length, getD};
+ghost use lib.Seq.{sets};
+ghost use lib.Dec.{leb};
+ghost use Rattle.refusal.specs.Outcome.{pick};
+ghost use Rattle.words.specs.Words.{bytesOf};
+ghost use Rattle.text.specs.Text.{stored, isGap, inRange, digitOf, decimal, numberStored, digitStored};
+use words::and;
+use words::or;
 
 pub mod out;
 
@@ -22,7 +30,9 @@ pub enum DecimalText {
 }
 
 // Byte `i` from `at` on; 0 if there is none.
-pub fn byte(bytes: &[u8], at: usize, i: usize) -> u8 {
+pub fn byte(bytes: &[u8], at: usize, i: usize) -> u8
+    ensures { λ r. ⌜ r ≡ getD (now (bytes .entry)) (at + i) 0 ⌝ }
+{
     if at < bytes.len() {
         if i < bytes.len() - at {
             return bytes[at + i];
@@ -32,7 +42,9 @@ pub fn byte(bytes: &[u8], at: usize, i: usize) -> u8 {
 }
 
 // Stores byte `i` from `at` on; tells whether there is room.
-pub fn set(out: &mut [u8], at: usize, i: usize, b: u8) -> bool {
+pub fn set(out: &mut [u8], at: usize, i: usize, b: u8) -> bool
+    ensures { λ r. ⌜ (r, now (out .exit)) ≡ stored (at + i) b (now (out .entry)) ⌝ }
+{
     if at < out.len() {
         if i < out.len() - at {
             out[at + i] = b;
@@ -43,11 +55,13 @@ pub fn set(out: &mut [u8], at: usize, i: usize, b: u8) -> bool {
 }
 
 // What parts words: the end of a line alone, or any space and `sep`.
-fn is_gap(b: u8, sep: u8) -> bool {
+fn is_gap(b: u8, sep: u8) -> bool
+    ensures { λ r. ⌜ r ≡ isGap sep b ⌝ }
+{
     if sep == b'\n' {
         return b == sep;
     }
-    b == b' ' || b == b'\t' || b == b'\n' || b == b'\r' || b == sep
+    or(b == b' ', or(b == b'\t', or(b == b'\n', or(b == b'\r', b == sep))))
 }
 
 // The first place from `at` on that is a gap, or that is none; else the end.
@@ -104,26 +118,36 @@ pub fn line_at<'a>(text: &'a [u8], at: usize) -> &'a [u8]
     &text[at..end]
 }
 
+fn in_range(low: u8, high: u8, b: u8) -> bool
+    ensures { λ r. ⌜ r ≡ inRange low high b ⌝ }
+{
+    and(low <= b, b <= high)
+}
+
 // What a character of hexadecimal text stands for: a digit, or a gap, or something strange.
 const GAP: u8 = 16;
 
 const STRANGE: u8 = 17;
 
-fn digit(b: u8) -> u8 {
-    if b'0' <= b && b <= b'9' {
-        return b % 16;
+fn digit(b: u8) -> u8
+    ensures { λ r. ⌜ r ≡ digitOf b ⌝ }
+{
+    if in_range(b'0', b'9', b) {
+        return b - b'0';
     }
-    if b'a' <= b && b <= b'f' {
-        return b % 16 + 9;
+    if in_range(b'a', b'f', b) {
+        return b - b'a' + 10;
     }
-    if b'A' <= b && b <= b'F' {
-        return b % 16 + 9;
+    if in_range(b'A', b'F', b) {
+        return b - b'A' + 10;
     }
     if is_gap(b, b':') { GAP } else { STRANGE }
 }
 
 // Stores the digit behind the `digits` before it; tells whether there is room.
-fn put_digit(out: &mut [u8], at: usize, room: usize, digits: usize, d: u8) -> bool {
+fn put_digit(out: &mut [u8], at: usize, room: usize, digits: usize, d: u8) -> bool
+    ensures { λ r. ⌜ (r, now (out .exit)) ≡ digitStored at room digits d (now (out .entry)) ⌝ }
+{
     let k = digits / 2;
     if room <= k {
         return false;
@@ -159,14 +183,18 @@ pub fn parse_hex(text: &[u8], out: &mut [u8], at: usize, room: usize) -> Hex {
 }
 
 // The number and one more digit. Whatever is not below 2^62 then may grow further: no operation takes it.
-fn appended(value: u64, digit: u8) -> u64 {
+fn appended(value: u64, digit: u8) -> u64
+    ensures { λ r. ⌜ r ≡ pick (leb (2 ^ 60) value) (2 ^ 64 - 1) (10 * value + digit) ⌝ }
+{
     if 1 << 60 <= value {
         return u64::MAX;
     }
     10 * value + words::wide(digit)
 }
 
-pub fn parse_decimal(text: &[u8]) -> DecimalText {
+pub fn parse_decimal(text: &[u8]) -> DecimalText
+    ensures { λ r. ⌜ r ≡ decimal (now (text .entry)) ⌝ }
+{
     if text.len() == 0 {
         return DecimalText::Strange;
     }
@@ -184,7 +212,9 @@ pub fn parse_decimal(text: &[u8]) -> DecimalText {
 }
 
 // Stores a number in `n` bytes, high byte first.
-fn put_bytes(out: &mut [u8], at: usize, n: usize, x: u64) {
+fn put_bytes(out: &mut [u8], at: usize, n: usize, x: u64)
+    ensures { λ r. ⌜ now (out .exit) ≡ sets (now (out .entry)) at (bytesOf n x) ⌝ }
+{
     let mut rest = x;
     let mut i = n;
     while 0 < i {
@@ -195,7 +225,9 @@ fn put_bytes(out: &mut [u8], at: usize, n: usize, x: u64) {
 }
 
 // A decimal number of at most `most`, in `n` bytes; tells whether it is one.
-pub fn put_number(digits: &[u8], most: u64, out: &mut [u8], at: usize, n: usize) -> bool {
+pub fn put_number(digits: &[u8], most: u64, out: &mut [u8], at: usize, n: usize) -> bool
+    ensures { λ r. ⌜ (r, now (out .exit)) ≡ numberStored most at n (now (out .entry)) (decimal (now (digits .entry))) ⌝ }
+{
     let DecimalText::Number(x) = parse_decimal(digits) else {
         return false;
     };

@@ -1,0 +1,77 @@
+-- What text holds: words, decimal and hexadecimal numbers; and what storing them leaves in a buffer. Characters are bytes, and `sets` stores
+-- bytes from a place on, as far as there is room.
+use Prim.Native.Nat.{ℕ, zero, suc, _+_, _-_, _*_, _/_, _%_, _^_, min}
+use mathlib.Core.Bool.{Bool, true, false, _&&_, _||_}
+use mathlib.Core.List.{List, [], _∷_}
+use lib.ListN.{length, getD, take, drop, set}
+use lib.Seq.{sets}
+use lib.Bits.{bitOr}
+use lib.Dec.{eqb, leb, ltb}
+use Rattle.refusal.specs.Outcome.{pick}
+use Rattle.words.specs.Words.{every, bytesOf}
+use Rattle.text.specs.declared.DecimalText.{DecimalText}
+use Rattle.text.specs.declared.DecimalText.the-variants.{Number, Strange as StrangeText}
+use Rattle.text.specs.declared.Hex.{Hex}
+use Rattle.text.specs.declared.Hex.the-variants.{Bytes, Strange, Odd, Long}
+
+-- a byte stored at a place, if there is that place; and whether there is
+abbrev pub stored : ℕ → ℕ → List ℕ → Bool × List ℕ
+stored p b out = (ltb p (length out), set out p b)
+
+-- CHARACTERS
+-- what parts words: the end of a line alone, or any space and sep
+unfoldable pub isGap : ℕ → ℕ → Bool
+isGap sep b = pick (eqb sep 10) (eqb b sep) (eqb b 32 || (eqb b 9 || (eqb b 10 || (eqb b 13 || eqb b sep))))
+
+abbrev pub inRange : ℕ → ℕ → ℕ → Bool
+inRange low high b = leb low b && leb b high
+
+-- the digit 0 to 15 that a character is; 16 for a gap or a colon, 17 for any other
+unfoldable pub digitOf : ℕ → ℕ
+digitOf b =
+    pick (inRange 48 57 b) (b - 48)
+    (pick (inRange 97 102 b) (b - 97 + 10)
+    (pick (inRange 65 70 b) (b - 65 + 10)
+    (pick (isGap 58 b) 16 17)))
+
+-- DECIMAL NUMBERS
+-- the number that decimal digits make after the number v
+abbrev pub decimalFrom : ℕ → List ℕ → ℕ
+decimalFrom v [] = v
+decimalFrom v (b ∷ bs) = decimalFrom (10 * v + (b - 48)) bs
+
+-- a number as it is kept: the largest there is, if it has 2^60 or more before its last digit
+unfoldable pub kept : ℕ → ℕ
+kept v = pick (ltb (v / 10) (2 ^ 60)) v (2 ^ 64 - 1)
+
+unfoldable pub decimal : List ℕ → DecimalText
+decimal text = pick (ltb 0 (length text) && every (inRange 48 57) text) (Number (kept (decimalFrom 0 text))) StrangeText
+
+-- the number of a text, if it is one of at most `most`, stored in n bytes, high byte first; and whether it is
+abbrev pub numberStored : ℕ → ℕ → ℕ → List ℕ → DecimalText → Bool × List ℕ
+numberStored most at n out (Number x) = pick (leb x most) (true, sets out at (bytesOf n x)) (false, out)
+numberStored most at n out StrangeText = (false, out)
+
+-- HEXADECIMAL NUMBERS
+-- the characters before the first strange one
+abbrev pub known : List ℕ → List ℕ
+known [] = []
+known (c ∷ cs) = pick (eqb (digitOf c) 17) [] (c ∷ known cs)
+
+-- the digits among characters
+abbrev pub digitsIn : List ℕ → List ℕ
+digitsIn [] = []
+digitsIn (c ∷ cs) = pick (ltb (digitOf c) 16) (digitOf c ∷ digitsIn cs) (digitsIn cs)
+
+-- two digits to a byte, the high one first; a last one alone is a high one
+abbrev pub packed : List ℕ → List ℕ
+packed [] = []
+packed (h ∷ []) = h * 16 ∷ []
+packed (h ∷ l ∷ ds) = (h * 16 + l) ∷ packed ds
+
+-- the digit behind n others, stored if its byte is one of `room` bytes and there is that byte; and whether it is
+unfoldable pub digitStored : ℕ → ℕ → ℕ → ℕ → List ℕ → Bool × List ℕ
+digitStored at room n d out =
+    pick (ltb (n / 2) room)
+    (stored (at + n / 2) (pick (eqb (n % 2) 0) (d * 16 % 256) (bitOr (getD out (at + n / 2) 0) d)) out)
+    (false, out)
