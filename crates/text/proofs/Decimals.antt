@@ -1,8 +1,9 @@
 -- Laws of decimal numbers. Assumes nothing.
 --     in-range          what is in a range
+--     digit-most        how large a digit is
 --     low-digit, no-digit    a character is a decimal digit exactly if it stands for one below 10
 --     kept-more         a number as it is kept, with one more digit
---     every-more, decimal-more    one more character
+--     more, every-more, decimal-more    one more character
 --     strange, empty, whole       what a text is: by a character that is no digit, without characters, and with none but digits
 --     byte-before, less      one more byte of a number, before those that are stored; the number without it
 use Prim.Native.Nat.{ℕ, zero, suc, _+_, _-_, _*_, _/_, _%_, _^_, _≤_, _<_}
@@ -52,6 +53,26 @@ own-digit : (b : ℕ) → inRange 48 57 b ≡ true → digitOf b ≡ b - 48
 unfolding digitOf
 own-digit b h = rw h
 
+pub digit-most : (b : ℕ) → digitOf b ≤ 17
+unfolding digitOf
+digit-most b = first (inRange 48 57 b) refl
+  where
+    gap : (t : Bool) → pick t 16 17 ≤ 17
+    gap true = omega arith
+    gap false = omega arith
+
+    upper : (t : Bool) → inRange 65 70 b ≡ t → pick t (b - 65 + 10) (pick (isGap 58 b) 16 17) ≤ 17
+    upper true e = omega (arith, in-range 65 70 b e)
+    upper false e = gap (isGap 58 b)
+
+    lower : (t : Bool) → inRange 97 102 b ≡ t → pick t (b - 97 + 10) (pick (inRange 65 70 b) (b - 65 + 10) (pick (isGap 58 b) 16 17)) ≤ 17
+    lower true e = omega (arith, in-range 97 102 b e)
+    lower false e = upper (inRange 65 70 b) refl
+
+    first : (t : Bool) → inRange 48 57 b ≡ t → pick t (b - 48) (pick (inRange 97 102 b) (b - 97 + 10) (pick (inRange 65 70 b) (b - 65 + 10) (pick (isGap 58 b) 16 17))) ≤ 17
+    first true e = omega (arith, in-range 48 57 b e)
+    first false e = lower (inRange 97 102 b) refl
+
 pub low-digit : (b : ℕ) → digitOf b ≤ 9 → (inRange 48 57 b ≡ true) × (digitOf b ≡ b - 48)
 low-digit b h = go (inRange 48 57 b) refl
   where
@@ -93,7 +114,7 @@ not-every f (x ∷ l) (suc p) h e = rw (not-every f l p (omega arith) e) (flat (
 
 -- one more character of a text
 module _ (s : List ℕ) (i : ℕ) (h : i < length s) where
-  more : take (i + 1) s ≡ take i s ++ (getD s i 0 ∷ [])
+  pub more : take (i + 1) s ≡ take i s ++ (getD s i 0 ∷ [])
   more = rw (add-one i) (take-suc s i 0 h)
 
   pub every-more : inRange 48 57 (getD s i 0) ≡ true → every (inRange 48 57) (take i s) ≡ true → every (inRange 48 57) (take (i + 1) s) ≡ true

@@ -1,1 +1,2 @@
 pub mod Decimals
+pub mod Hexes

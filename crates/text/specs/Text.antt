@@ -69,6 +69,32 @@ packed [] = []
 packed (h ∷ []) = h * 16 ∷ []
 packed (h ∷ l ∷ ds) = (h * 16 + l) ∷ packed ds
 
+-- how many of `room` bytes a buffer has from a place on
+abbrev pub fitting : ℕ → ℕ → List ℕ → ℕ
+fitting at room out = min room (length out - at)
+
+-- what hexadecimal text is where there is room for some bytes. Of a strange character and a digit too many, the first counts
+unfoldable pub hexText : List ℕ → ℕ → Hex
+hexText text room =
+    pick (ltb (2 * room) (length (digitsIn (known text)))) Long
+    (pick (ltb (length (known text)) (length text)) (Strange (length (known text)))
+    (pick (eqb (length (digitsIn (known text)) % 2) 1) Odd (Bytes (length (digitsIn (known text)) / 2))))
+
+-- what text is, and the buffer with the bytes that it holds, as far as there is room. The digits before a strange character are stored too
+unfoldable pub hexStored : List ℕ → ℕ → ℕ → List ℕ → Hex × List ℕ
+hexStored text at room out =
+    (hexText text (fitting at room out), sets out at (take (fitting at room out) (packed (digitsIn (known text)))))
+
+abbrev pub areSixteen : Hex → Bool
+areSixteen (Bytes n) = eqb n 16
+areSixteen (Strange i) = false
+areSixteen Odd = false
+areSixteen Long = false
+
+-- the same of 16 bytes; and whether they are 16
+abbrev pub sixteenStored : Hex × List ℕ → Bool × List ℕ
+sixteenStored h = (areSixteen (h .0), h .1)
+
 -- the digit behind n others, stored if its byte is one of `room` bytes and there is that byte; and whether it is
 unfoldable pub digitStored : ℕ → ℕ → ℕ → ℕ → List ℕ → Bool × List ℕ
 digitStored at room n d out =

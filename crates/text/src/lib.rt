@@ -6,7 +6,7 @@ ghost use lib.Seq.{sets};
 ghost use lib.Dec.{leb};
 ghost use Rattle.refusal.specs.Outcome.{pick};
 ghost use Rattle.words.specs.Words.{bytesOf};
-ghost use Rattle.text.specs.Text.{stored, isGap, inRange, digitOf, decimal, numberStored, digitStored};
+ghost use Rattle.text.specs.Text.{stored, isGap, inRange, digitOf, decimal, numberStored, digitStored, hexStored, sixteenStored};
 use words::and;
 use words::or;
 
@@ -160,7 +160,9 @@ fn put_digit(out: &mut [u8], at: usize, room: usize, digits: usize, d: u8) -> bo
 }
 
 // Puts the bytes that hexadecimal text holds into `out` from `at` on, at most `room` of them. Gaps and colons are skipped.
-pub fn parse_hex(text: &[u8], out: &mut [u8], at: usize, room: usize) -> Hex {
+pub fn parse_hex(text: &[u8], out: &mut [u8], at: usize, room: usize) -> Hex
+    ensures { λ r. ⌜ (r, now (out .exit)) ≡ hexStored (now (text .entry)) at room (now (out .entry)) ⌝ }
+{
     let mut digits: usize = 0;
     let mut i: usize = 0;
     while i < text.len() {
@@ -256,7 +258,9 @@ pub fn put_list(text: &[u8], from: usize, to: usize, sep: u8, out: &mut [u8], at
 }
 
 // Exactly 16 bytes, in hexadecimal; tells whether they are.
-pub fn put_16(digits: &[u8], out: &mut [u8], at: usize) -> bool {
+pub fn put_16(digits: &[u8], out: &mut [u8], at: usize) -> bool
+    ensures { λ r. ⌜ (r, now (out .exit)) ≡ sixteenStored (hexStored (now (digits .entry)) at 16 (now (out .entry))) ⌝ }
+{
     match parse_hex(digits, out, at, 16) {
         Hex::Bytes(n) => n == 16,
         _ => false,
