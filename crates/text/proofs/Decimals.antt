@@ -3,7 +3,7 @@
 --     digit-most        how large a digit is
 --     low-digit, no-digit    a character is a decimal digit exactly if it stands for one below 10
 --     kept-more         a number as it is kept, with one more digit
---     more, every-more, decimal-more    one more character
+--     more, rest, every-more, decimal-more    one more character
 --     strange, empty, whole       what a text is: by a character that is no digit, without characters, and with none but digits
 --     byte-before, less      one more byte of a number, before those that are stored; the number without it
 use Prim.Native.Nat.{ℕ, zero, suc, _+_, _-_, _*_, _/_, _%_, _^_, _≤_, _<_}
@@ -12,8 +12,8 @@ use mathlib.Core.List.{List, [], _∷_, _++_}
 use mathlib.Core.Bool.{Bool, true, false, _&&_}
 use native.Mathlib.Omega.{arith}
 use native.Mathlib.Numerals.{add-one}
-use lib.ListN.{length, getD, take, set}
-use lib.Seq.{take-suc, take-all, sets, set-comm}
+use lib.ListN.{length, getD, take, drop, set}
+use lib.Seq.{take-suc, drop-cons, take-all, sets, set-comm}
 use native.Mathlib.Nat.{div-div-eq-div-mul, pow-succ', mul-comm}
 use lib.Dec.{leb, ltb}
 use borrow.Author.Tests.{lt-ltb, le-ltb, ltb-true, ltb-false, leb-true, leb-false, le-leb, lt-leb}
@@ -116,6 +116,9 @@ not-every f (x ∷ l) (suc p) h e = rw (not-every f l p (omega arith) e) (flat (
 module _ (s : List ℕ) (i : ℕ) (h : i < length s) where
   pub more : take (i + 1) s ≡ take i s ++ (getD s i 0 ∷ [])
   more = rw (add-one i) (take-suc s i 0 h)
+
+  pub rest : drop i s ≡ getD s i 0 ∷ drop (i + 1) s
+  rest = rw (add-one i) (drop-cons s i 0 h)
 
   pub every-more : inRange 48 57 (getD s i 0) ≡ true → every (inRange 48 57) (take i s) ≡ true → every (inRange 48 57) (take (i + 1) s) ≡ true
   every-more d e = rw (more, every-append (inRange 48 57) (take i s) (getD s i 0 ∷ []), e, d)

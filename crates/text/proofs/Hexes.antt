@@ -10,16 +10,15 @@ use mathlib.Core.Path.{_≡_, refl, sym, ap, _∙_}
 use mathlib.Core.List.{List, [], _∷_, _++_, append-nil}
 use mathlib.Core.Bool.{Bool, true, false}
 use native.Mathlib.Omega.{arith}
-use native.Mathlib.Numerals.{add-one}
 use lib.ListN.{length, getD, take, drop, set, length-set, length-append, drop-of-length-le}
-use lib.Seq.{drop-cons, append-snoc, sets, length-sets, set-out, set-set, getD-set-same, take-all, take-at, length-take-le}
+use lib.Seq.{append-snoc, sets, length-sets, set-out, set-set, getD-set-same, take-all, take-at, length-take-le}
 use lib.Bits.{bitOr, or-shifted}
 use lib.Dec.{eqb, ltb}
 use borrow.Author.Tests.{lt-ltb, le-ltb, ltb-true, ltb-false, eq-eqb, ne-eqb}
 use Rattle.refusal.specs.Outcome.{pick}
 use Rattle.text.specs.declared.Hex.the-variants.{Bytes, Strange, Odd, Long}
 use Rattle.text.specs.Text.{stored, digitOf, known, digitsIn, packed, fitting, hexText, hexStored, digitStored}
-use Rattle.text.proofs.Decimals.{digit-most, more}
+use Rattle.text.proofs.Decimals.{digit-most, more, rest}
 
 digits-append : (a b : List ℕ) → digitsIn (a ++ b) ≡ digitsIn a ++ digitsIn b
 digits-append [] b = refl
@@ -58,15 +57,12 @@ put-more (a ∷ b ∷ ds) out at d h k =
 
 -- ONE CHARACTER
 module _ (s : List ℕ) (i : ℕ) (h : i < length s) where
-  rest : drop i s ≡ getD s i 0 ∷ drop (i + 1) s
-  rest = rw (add-one i) (drop-cons s i 0 h)
-
   known-strange : digitOf (getD s i 0) ≡ 17 → known s ≡ take i s ++ known (drop i s) → known s ≡ take i s
-  known-strange d k = k ∙ rw (rest, eq-eqb (digitOf (getD s i 0)) 17 d) (append-nil (take i s))
+  known-strange d k = k ∙ rw (rest s i h, eq-eqb (digitOf (getD s i 0)) 17 d) (append-nil (take i s))
 
   known-more : (digitOf (getD s i 0) ≡ 17 → ⊥) → known s ≡ take i s ++ known (drop i s) → known s ≡ take (i + 1) s ++ known (drop (i + 1) s)
   known-more d k =
-      k ∙ rw (rest, ne-eqb (digitOf (getD s i 0)) 17 d, more s i h) (sym (append-snoc (take i s) (getD s i 0) (known (drop (i + 1) s))))
+      k ∙ rw (rest s i h, ne-eqb (digitOf (getD s i 0)) 17 d, more s i h) (sym (append-snoc (take i s) (getD s i 0) (known (drop (i + 1) s))))
 
   digits-gap : digitOf (getD s i 0) ≡ 16 → digitsIn (take (i + 1) s) ≡ digitsIn (take i s)
   digits-gap d =

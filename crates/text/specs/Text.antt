@@ -1,7 +1,7 @@
 -- What text holds: words, decimal and hexadecimal numbers; and what storing them leaves in a buffer. Characters are bytes, and `sets` stores
 -- bytes from a place on, as far as there is room.
 use Prim.Native.Nat.{ℕ, zero, suc, _+_, _-_, _*_, _/_, _%_, _^_, min}
-use mathlib.Core.Bool.{Bool, true, false, _&&_, _||_}
+use mathlib.Core.Bool.{Bool, true, false, _&&_, _||_, not}
 use mathlib.Core.List.{List, [], _∷_}
 use lib.ListN.{length, getD, take, drop, set}
 use lib.Seq.{sets}
@@ -34,6 +34,29 @@ digitOf b =
     (pick (inRange 65 70 b) (b - 65 + 10)
     (pick (isGap 58 b) 16 17)))
 
+-- WORDS
+-- how many characters stand before the first that passes a test
+abbrev pub before : (ℕ → Bool) → List ℕ → ℕ
+before f [] = 0
+before f (c ∷ cs) = pick (f c) 0 (suc (before f cs))
+
+-- a test, or its contrary
+abbrev pub askedOf : Bool → Bool → Bool
+askedOf true b = b
+askedOf false b = not b
+
+-- the characters from the first word on; and those behind it
+abbrev pub fromWord : ℕ → List ℕ → List ℕ
+fromWord sep cs = drop (before (λ c. not (isGap sep c)) cs) cs
+
+abbrev pub pastWord : ℕ → List ℕ → List ℕ
+pastWord sep cs = drop (before (isGap sep) (fromWord sep cs)) (fromWord sep cs)
+
+-- word k, counted from 0: what stands up to the next gap; nothing if there are fewer
+abbrev pub wordAt : ℕ → ℕ → List ℕ → List ℕ
+wordAt sep zero cs = take (before (isGap sep) (fromWord sep cs)) (fromWord sep cs)
+wordAt sep (suc k) cs = wordAt sep k (pastWord sep cs)
+
 -- DECIMAL NUMBERS
 -- the number that decimal digits make after the number v
 abbrev pub decimalFrom : ℕ → List ℕ → ℕ
@@ -51,6 +74,24 @@ decimal text = pick (ltb 0 (length text) && every (inRange 48 57) text) (Number 
 abbrev pub numberStored : ℕ → ℕ → ℕ → List ℕ → DecimalText → Bool × List ℕ
 numberStored most at n out (Number x) = pick (leb x most) (true, sets out at (bytesOf n x)) (false, out)
 numberStored most at n out StrangeText = (false, out)
+
+-- a number below 256 before others; nothing if it is none
+abbrev pub listed : DecimalText → List ℕ → List ℕ
+listed (Number x) l = pick (leb x 255) (x ∷ l) []
+listed StrangeText l = []
+
+-- the numbers below 256 that the words are, m of them from word k on, up to the first that is none
+abbrev pub byteWords : ℕ → List ℕ → ℕ → ℕ → List ℕ
+byteWords sep text zero k = []
+byteWords sep text (suc m) k = listed (decimal (wordAt sep k text)) (byteWords sep text m (suc k))
+
+-- the words `from` to `to` as bytes, stored; and whether each is one, with no word behind them
+unfoldable pub listStored : List ℕ → ℕ → ℕ → ℕ → ℕ → List ℕ → Bool × List ℕ
+listStored text from to sep at out =
+    (
+      eqb (length (byteWords sep text (to - from) from)) (to - from) && eqb (length (wordAt sep to text)) 0,
+      sets out at (byteWords sep text (to - from) from),
+    )
 
 -- HEXADECIMAL NUMBERS
 -- the characters before the first strange one

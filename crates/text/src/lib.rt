@@ -1,12 +1,12 @@
 // Text: lines and words, hexadecimal and decimal; single bytes of a buffer; and, in `out`, printing.
 ghost use mathlib.Core.Path.{_≡_};
 ghost use Prim.Native.Nat.{_+_, _-_, _*_, _≤_, _^_};
-ghost use lib.ListN.{length, getD};
+ghost use lib.ListN.{length, getD, drop};
 ghost use lib.Seq.{sets};
 ghost use lib.Dec.{leb};
 ghost use Rattle.refusal.specs.Outcome.{pick};
 ghost use Rattle.words.specs.Words.{bytesOf};
-ghost use Rattle.text.specs.Text.{stored, isGap, inRange, digitOf, decimal, numberStored, digitStored, hexStored, sixteenStored};
+ghost use Rattle.text.specs.Text.{stored, isGap, before, askedOf, wordAt, inRange, digitOf, decimal, numberStored, listStored, digitStored, hexStored, sixteenStored};
 use words::and;
 use words::or;
 
@@ -64,14 +64,20 @@ fn is_gap(b: u8, sep: u8) -> bool
     or(b == b' ', or(b == b'\t', or(b == b'\n', or(b == b'\r', b == sep))))
 }
 
+// A test, or its contrary.
+fn asked(yes: bool, test: bool) -> bool
+    ensures { λ r. ⌜ r ≡ askedOf yes test ⌝ }
+{
+    if yes { test } else { !test }
+}
+
 // The first place from `at` on that is a gap, or that is none; else the end.
 fn run(text: &[u8], at: usize, sep: u8, gap: bool) -> usize
-    requires { ⌜ at ≤ length (now text) ⌝ }
-    ensures { λ r. ⌜ (at ≤ r) × (r ≤ length (now (text .entry))) ⌝ }
+    ensures { λ r. ⌜ r ≡ at + before (λ c. askedOf gap (isGap sep c)) (drop at (now (text .entry))) ⌝ }
 {
     let mut i = at;
     while i < text.len() {
-        if is_gap(text[i], sep) == gap {
+        if asked(gap, is_gap(text[i], sep)) {
             return i;
         }
         i += 1;
@@ -80,7 +86,9 @@ fn run(text: &[u8], at: usize, sep: u8, gap: bool) -> usize
 }
 
 // Word `k` of the text, counted from 0; empty if there are fewer. With the end of a line for `sep`, line `k`, of those that are not empty.
-pub fn word<'a>(text: &'a [u8], k: usize, sep: u8) -> &'a [u8] {
+pub fn word<'a>(text: &'a [u8], k: usize, sep: u8) -> &'a [u8]
+    ensures { λ r. ⌜ now r ≡ wordAt sep k (now (text .entry)) ⌝ }
+{
     let mut at: usize = 0;
     let mut i: usize = 0;
     while i < k {
@@ -241,7 +249,9 @@ pub fn put_number(digits: &[u8], most: u64, out: &mut [u8], at: usize, n: usize)
 }
 
 // The words `from` to `to`, decimal numbers below 256, a byte for each; tells whether they are there and no word behind them.
-pub fn put_list(text: &[u8], from: usize, to: usize, sep: u8, out: &mut [u8], at: usize) -> bool {
+pub fn put_list(text: &[u8], from: usize, to: usize, sep: u8, out: &mut [u8], at: usize) -> bool
+    ensures { λ r. ⌜ (r, now (out .exit)) ≡ listStored (now (text .entry)) from to sep at (now (out .entry)) ⌝ }
+{
     let mut k = from;
     while k < to {
         let DecimalText::Number(x) = parse_decimal(word(text, k, sep)) else {
