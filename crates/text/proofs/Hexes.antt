@@ -205,7 +205,7 @@ module _ (s first : List ℕ) (at room i n : ℕ) (out : List ℕ) (m : Met s fi
           all,
           packed-even (digitsIn (take i s)) (digitOf (getD s i 0) ∷ digitsIn (known (drop (i + 1) s))) (omega (arith, m .count, m .within)),
           take-at (packed (digitsIn (take i s))) (packed (digitOf (getD s i 0) ∷ digitsIn (known (drop (i + 1) s)))) (fitting at room first)
-            (omega (arith, packed-length (digitsIn (take i s)), m .count, m .within)),
+              (omega (arith, packed-length (digitsIn (take i s)), m .count, m .within)),
           ← m .stores,
         )
 

@@ -51,17 +51,16 @@ module _ (sep : ℕ) (s : List ℕ) (at from to : ℕ) (e : from ≡ at + before
   word-here = let n : to - from ≡ before (isGap sep) (drop from s) = omega arith in rw (n, begins)
 
   pub word-within : at ≤ length s → (from ≤ to) × (to ≤ length s)
-  word-within h =
-      (
-        omega arith,
-        omega (
-          arith,
-          before-most (λ c. not (isGap sep c)) (drop at s),
-          length-drop at s,
-          before-most (isGap sep) (drop from s),
-          length-drop from s,
-        ),
-      )
+  word-within h = (
+    omega arith,
+    omega (
+      arith,
+      before-most (λ c. not (isGap sep c)) (drop at s),
+      length-drop at s,
+      before-most (isGap sep) (drop from s),
+      length-drop from s,
+    ),
+  )
 
 -- LISTS OF NUMBERS
 sets-snoc : (a l : List ℕ) (p x : ℕ) → sets l p (a ++ (x ∷ [])) ≡ set (sets l p a) (p + length a) x

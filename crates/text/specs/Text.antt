@@ -87,11 +87,10 @@ byteWords sep text (suc m) k = listed (decimal (wordAt sep k text)) (byteWords s
 
 -- the words `from` to `to` as bytes, stored; and whether each is one, with no word behind them
 unfoldable pub listStored : List ℕ → ℕ → ℕ → ℕ → ℕ → List ℕ → Bool × List ℕ
-listStored text from to sep at out =
-    (
-      eqb (length (byteWords sep text (to - from) from)) (to - from) && eqb (length (wordAt sep to text)) 0,
-      sets out at (byteWords sep text (to - from) from),
-    )
+listStored text from to sep at out = (
+  eqb (length (byteWords sep text (to - from) from)) (to - from) && eqb (length (wordAt sep to text)) 0,
+  sets out at (byteWords sep text (to - from) from),
+)
 
 -- HEXADECIMAL NUMBERS
 -- the characters before the first strange one

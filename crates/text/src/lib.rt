@@ -61,7 +61,10 @@ fn is_gap(b: u8, sep: u8) -> bool
     if sep == b'\n' {
         return b == sep;
     }
-    or(b == b' ', or(b == b'\t', or(b == b'\n', or(b == b'\r', b == sep))))
+    or(
+        b == b' ',
+        or(b == b'\t', or(b == b'\n', or(b == b'\r', b == sep))),
+    )
 }
 
 // A test, or its contrary.

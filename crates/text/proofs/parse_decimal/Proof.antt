@@ -36,8 +36,7 @@ loop-again c =
     let l = c .before .before .before .before .before .loop in
     let s = c .before .before .before .before .before .before .before .before .args .text .now in
     let h = low-digit (getD s (l .i) 0) (rw (c .before .before .digit .ensures) at (c .before .if2 .left)) in
-    let d = c .before .before .digit .ensures ∙ h .1 in
-    (
+    let d = c .before .before .digit .ensures ∙ h .1 in (
       omega arith,
       every-more s (l .i) (omega arith) (h .0) (l .inv .1),
       c .appended .ensures ∙ rw (l .inv .2, d) (kept-more (decimalFrom 0 (take (l .i) s)) (getD s (l .i) 0 - 48) (omega arith)) ∙ ap kept (sym (decimal-more s (l .i) (omega arith))),

@@ -42,15 +42,15 @@ loop-again c =
     let a = c .before .before .before .before .before .before .before .before .args in
     ⊎-elim
     (λ w.
-      let d = small _ (q .result) (q .ensures) (c .before .if1 .left) (w .0 .taken) in
-      let p = w .2 in
-      let m = past-digit _ _ _ _ (l .i) (l .digits) (l .out) (l .inv .3) (omega arith) d (p .result) (p .last .0) (rw (q .ensures) at (p .ensures)) (not-false _ (w .5 .left)) in
-      let n : Met (a .text .now) (a .out .now) (a .at) (a .room) (l .i + 1) (c .if2 .digits) (c .if2 .out) = rw (w .6, w .7) m in
-      (omega arith, omega arith, met-length _ _ _ _ _ _ _ n, n))
+    let d = small _ (q .result) (q .ensures) (c .before .if1 .left) (w .0 .taken) in
+    let p = w .2 in
+    let m = past-digit _ _ _ _ (l .i) (l .digits) (l .out) (l .inv .3) (omega arith) d (p .result) (p .last .0) (rw (q .ensures) at (p .ensures)) (not-false _ (w .5 .left)) in
+    let n : Met (a .text .now) (a .out .now) (a .at) (a .room) (l .i + 1) (c .if2 .digits) (c .if2 .out) = rw (w .6, w .7) m in
+    (omega arith, omega arith, met-length _ _ _ _ _ _ _ n, n))
     (λ w.
-      let m = past-gap _ _ _ _ (l .i) (l .digits) (l .out) (l .inv .3) (omega arith) (sym (q .ensures) ∙ w .0 .left) in
-      let n : Met (a .text .now) (a .out .now) (a .at) (a .room) (l .i + 1) (c .if2 .digits) (c .if2 .out) = rw (w .1, w .2) m in
-      (omega arith, omega arith, met-length _ _ _ _ _ _ _ n, n))
+    let m = past-gap _ _ _ _ (l .i) (l .digits) (l .out) (l .inv .3) (omega arith) (sym (q .ensures) ∙ w .0 .left) in
+    let n : Met (a .text .now) (a .out .now) (a .at) (a .room) (l .i + 1) (c .if2 .digits) (c .if2 .out) = rw (w .1, w .2) m in
+    (omega arith, omega arith, met-length _ _ _ _ _ _ _ n, n))
     (c .if2 .came)
 
 returns-3 : tie.Need-returns-3 Inv-loop μ-loop

@@ -31,8 +31,7 @@ loop-again c =
     let x = c .before .before .set in
     let p : suc (l .i - 1) ≡ l .i = omega arith in
     let b = c .before .before .before .low .ensures ∙ ap (λ r. r % 256) (l .inv .2) in
-    let e = ap (λ r. r .1) (x .ensures) in
-    (
+    let e = ap (λ r. r .1) (x .ensures) in (
       omega arith,
       ap length e ∙ length-set (l .out) _ _ ∙ l .inv .1,
       ap (λ r. r / 256) (l .inv .2) ∙ less (a .x) (l .i) (l .i - 1) (a .n) p (l .inv .0),
