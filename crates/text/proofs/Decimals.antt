@@ -1,4 +1,5 @@
 -- Laws of decimal numbers. Assumes nothing.
+--     stored-out        the buffer with a byte stored
 --     in-range          what is in a range
 --     digit-most        how large a digit is
 --     low-digit, no-digit    a character is a decimal digit exactly if it stands for one below 10
@@ -7,21 +8,26 @@
 --     strange, empty, whole       what a text is: by a character that is no digit, without characters, and with none but digits
 --     byte-before, less      one more byte of a number, before those that are stored; the number without it
 use Prim.Native.Nat.{ℕ, zero, suc, _+_, _-_, _*_, _/_, _%_, _^_, _≤_, _<_}
-use mathlib.Core.Path.{_≡_, refl, sym, ap, _∙_}
+use mathlib.Core.Path.{_≡_, refl, ap, _∙_}
 use mathlib.Core.List.{List, [], _∷_, _++_}
 use mathlib.Core.Bool.{Bool, true, false, _&&_}
 use native.Mathlib.Omega.{arith}
 use native.Mathlib.Numerals.{add-one}
-use lib.ListN.{length, getD, take, drop, set}
+use lib.ListN.{length, getD, take, drop, set, length-set}
 use lib.Seq.{take-suc, drop-cons, take-all, sets, set-comm}
 use native.Mathlib.Nat.{div-div-eq-div-mul, pow-succ', mul-comm}
 use lib.Dec.{leb, ltb}
-use borrow.Author.Tests.{lt-ltb, le-ltb, ltb-true, ltb-false, leb-true, leb-false, le-leb, lt-leb}
+use borrow.Author.Tests.{lt-ltb, le-ltb, ltb-true, ltb-false, leb-true, le-leb, lt-leb}
 use Rattle.refusal.specs.Outcome.{pick}
 use Rattle.words.specs.Words.{every, bytesOf}
-use Rattle.words.proofs.Laws.{every-append, and-true}
+use Rattle.words.proofs.Laws.{every-append}
 use Rattle.text.specs.declared.DecimalText.the-variants.{Number, Strange}
-use Rattle.text.specs.Text.{inRange, isGap, digitOf, decimalFrom, kept, decimal}
+use Rattle.text.specs.Text.{stored, inRange, isGap, digitOf, decimalFrom, kept, decimal}
+
+pub stored-out : (p b : ℕ) (out l : List ℕ) (r : Bool) → (r, l) ≡ stored p b out → (l ≡ set out p b) × (length l ≡ length out)
+stored-out p b out l r e =
+    let f : l ≡ set out p b = ap (λ x. x .1) e in
+    (f, ap length f ∙ length-set out p b)
 
 pub in-range : (low high b : ℕ) → inRange low high b ≡ true → (low ≤ b) × (b ≤ high)
 in-range low high b h = go (leb low b) refl (leb b high) refl h

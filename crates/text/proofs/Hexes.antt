@@ -5,7 +5,7 @@
 --     Met               what is so behind the first i characters, n of them digits; and what follows from it:
 --       met-none, past-gap, past-digit       at the start, and one character later
 --       is-strange, is-long, is-odd, is-bytes    what the whole text is
-use Prim.Native.Nat.{ℕ, zero, suc, _+_, _-_, _*_, _/_, _%_, _^_, _≤_, _<_, min}
+use Prim.Native.Nat.{ℕ, suc, _+_, _*_, _/_, _%_, _≤_, _<_}
 use mathlib.Core.Path.{_≡_, refl, sym, ap, _∙_}
 use mathlib.Core.List.{List, [], _∷_, _++_, append-nil}
 use mathlib.Core.Bool.{Bool, true, false}

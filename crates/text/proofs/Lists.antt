@@ -4,17 +4,17 @@
 --     Listed            what is so behind the words before word k; and what follows from it:
 --       listed-none, listed-more    at the start, and one word later
 --       cut, whole      what the list is
-use Prim.Native.Nat.{ℕ, zero, suc, _+_, _-_, _%_, _≤_, _<_}
-use mathlib.Core.Path.{_≡_, refl, sym, ap, _∙_}
+use Prim.Native.Nat.{ℕ, suc, _+_, _-_, _≤_, _<_}
+use mathlib.Core.Path.{_≡_, sym, ap, _∙_}
 use mathlib.Core.List.{List, [], _∷_, _++_}
-use mathlib.Core.Bool.{Bool, true, false, _&&_, not}
+use mathlib.Core.Bool.{Bool, true, false, not}
 use native.Mathlib.Omega.{arith}
-use lib.ListN.{length, getD, take, drop, set, length-take, length-drop, drop-of-length-le}
+use lib.ListN.{length, getD, take, drop, set, length-drop, drop-of-length-le}
 use lib.Seq.{drop-drop, drop-cons, take-suc, take-all, sets, length-take-le}
-use lib.Dec.{eqb, leb}
-use borrow.Author.Tests.{eq-eqb, ne-eqb, le-leb, lt-leb}
+use lib.Dec.{eqb}
+use borrow.Author.Tests.{eq-eqb, ne-eqb, le-leb}
 use Rattle.refusal.specs.Outcome.{pick}
-use Rattle.text.specs.declared.DecimalText.the-variants.{Number, Strange}
+use Rattle.text.specs.declared.DecimalText.the-variants.{Number}
 use Rattle.text.specs.Text.{isGap, before, fromWord, pastWord, wordAt, decimal, listed, byteWords, listStored}
 use Rattle.text.proofs.Decimals.{rest}
 

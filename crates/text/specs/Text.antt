@@ -26,7 +26,7 @@ isGap sep b = pick (eqb sep 10) (eqb b sep) (eqb b 32 || (eqb b 9 || (eqb b 10 |
 abbrev pub inRange : ℕ → ℕ → ℕ → Bool
 inRange low high b = leb low b && leb b high
 
--- the digit 0 to 15 that a character is; 16 for a gap or a colon, 17 for any other
+-- the digit 0 to 15 that a character is, of 0 to 9, a to f and A to F; 16 for a gap or a colon, 17 for any other
 unfoldable pub digitOf : ℕ → ℕ
 digitOf b =
     pick (inRange 48 57 b) (b - 48)
@@ -67,6 +67,7 @@ decimalFrom v (b ∷ bs) = decimalFrom (10 * v + (b - 48)) bs
 unfoldable pub kept : ℕ → ℕ
 kept v = pick (ltb (v / 10) (2 ^ 60)) v (2 ^ 64 - 1)
 
+-- what decimal text is: a number, if it has digits and nothing else
 unfoldable pub decimal : List ℕ → DecimalText
 decimal text = pick (ltb 0 (length text) && every (inRange 48 57) text) (Number (kept (decimalFrom 0 text))) StrangeText
 
@@ -85,7 +86,7 @@ abbrev pub byteWords : ℕ → List ℕ → ℕ → ℕ → List ℕ
 byteWords sep text zero k = []
 byteWords sep text (suc m) k = listed (decimal (wordAt sep k text)) (byteWords sep text m (suc k))
 
--- the words `from` to `to` as bytes, stored; and whether each is one, with no word behind them
+-- the words from word `from` up to word `to`, which is none of them, stored as bytes; and whether each is one and there is no word `to`
 unfoldable pub listStored : List ℕ → ℕ → ℕ → ℕ → ℕ → List ℕ → Bool × List ℕ
 listStored text from to sep at out = (
   eqb (length (byteWords sep text (to - from) from)) (to - from) && eqb (length (wordAt sep to text)) 0,
@@ -125,13 +126,14 @@ unfoldable pub hexStored : List ℕ → ℕ → ℕ → List ℕ → Hex × List
 hexStored text at room out =
     (hexText text (fitting at room out), sets out at (take (fitting at room out) (packed (digitsIn (known text)))))
 
+-- whether text is 16 bytes
 abbrev pub areSixteen : Hex → Bool
 areSixteen (Bytes n) = eqb n 16
 areSixteen (Strange i) = false
 areSixteen Odd = false
 areSixteen Long = false
 
--- the same of 16 bytes; and whether they are 16
+-- the same, with that for the answer
 abbrev pub sixteenStored : Hex × List ℕ → Bool × List ℕ
 sixteenStored h = (areSixteen (h .0), h .1)
 

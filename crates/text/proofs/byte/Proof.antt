@@ -1,8 +1,7 @@
 -- `byte` meets its contract: from the end on, a list has the default. Assumes nothing.
-use mathlib.Core.Path.{sym}
+use mathlib.Core.Path.{refl, sym}
 use native.Mathlib.Omega.{arith}
 use lib.ListN.{List·getD-eq-default}
-use borrow.Author.Needs.{needs}
 use Rattle.text.proofs.byte.Statement.{statement}
 use Rattle.text.proofs.byte.Tie as tie
 
@@ -15,4 +14,4 @@ returns-3 c = sym (List·getD-eq-default (c .before .args .bytes .now) 0 (omega 
 pub byte-spec : {M : Type 1} → statement M
 byte-spec =
     tie.close
-    (tie.spec (λ c. search needs) (λ c. search needs) (λ c. search needs) (λ c. search needs) returns-2 returns-3)
+    (tie.spec (λ c. omega arith) (λ c. omega arith) (λ c. omega arith) (λ c. refl) returns-2 returns-3)

@@ -4,7 +4,6 @@ use mathlib.Core.Path.{_≡_, refl, sym, ap, _∙_}
 use mathlib.Core.Bool.{true}
 use native.Mathlib.Omega.{arith}
 use lib.ListN.{length, take, getD}
-use borrow.Author.Needs.{needs}
 use Rattle.words.specs.Words.{every}
 use Rattle.text.specs.Text.{inRange, decimalFrom, kept}
 use Rattle.text.proofs.Decimals.{low-digit, kept-more, every-more, decimal-more, strange, empty, whole}

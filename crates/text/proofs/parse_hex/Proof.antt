@@ -1,12 +1,11 @@
 -- `parse_hex` meets its contract. The invariant: the digits among the first `i` characters, none of which is strange, are stored. Assumes nothing.
-use Prim.Native.Nat.{_≤_, _<_, _-_, _+_}
-use mathlib.Core.Path.{_≡_, refl, sym, ap, _∙_}
+use Prim.Native.Nat.{_≤_, _-_, _+_}
+use mathlib.Core.Path.{_≡_, refl, sym, _∙_}
 use mathlib.Core.Logic.{⊎-elim}
 use native.Mathlib.Omega.{arith}
-use lib.ListN.{length, getD}
+use lib.ListN.{length}
 use borrow.Author.Needs.{needs}
 use borrow.Author.Tests.{not-true, not-false}
-use Rattle.text.specs.Text.{digitOf}
 use Rattle.text.proofs.Hexes.{small, Met, met-none, met-length, past-gap, past-digit, is-strange, is-long, is-odd, is-bytes}
 use Rattle.text.proofs.parse_hex.Statement.{statement}
 use Rattle.text.proofs.parse_hex.Tie as tie

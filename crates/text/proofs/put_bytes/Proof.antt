@@ -1,13 +1,13 @@
 -- `put_bytes` meets its contract. The invariant: the last bytes are stored, and `rest` is the number without them. Assumes nothing.
 use Prim.Native.Nat.{suc, _+_, _-_, _/_, _%_, _^_, _≤_}
-use lib.ListN.{length, length-set}
+use lib.ListN.{length}
 use lib.Seq.{sets}
 use mathlib.Core.Path.{_≡_, refl, sym, ap, _∙_}
 use native.Mathlib.Omega.{arith}
 use native.Mathlib.Nat.{div-one}
 use borrow.Author.Needs.{needs}
 use Rattle.words.specs.Words.{bytesOf}
-use Rattle.text.proofs.Decimals.{byte-before, less}
+use Rattle.text.proofs.Decimals.{stored-out, byte-before, less}
 use Rattle.text.proofs.put_bytes.Statement.{statement}
 use Rattle.text.proofs.put_bytes.Tie as tie
 
@@ -28,14 +28,13 @@ loop-again : tie.Need-loop-again Inv-loop μ-loop
 loop-again c =
     let a = c .before .before .before .before .before .before .before .before .args in
     let l = c .before .before .before .before .before .before .loop in
-    let x = c .before .before .set in
     let p : suc (l .i - 1) ≡ l .i = omega arith in
     let b = c .before .before .before .low .ensures ∙ ap (λ r. r % 256) (l .inv .2) in
-    let e = ap (λ r. r .1) (x .ensures) in (
+    let e = stored-out _ _ (l .out) _ _ (c .before .before .set .ensures) in (
       omega arith,
-      ap length e ∙ length-set (l .out) _ _ ∙ l .inv .1,
+      e .1 ∙ l .inv .1,
       ap (λ r. r / 256) (l .inv .2) ∙ less (a .x) (l .i) (l .i - 1) (a .n) p (l .inv .0),
-      e ∙ rw b (byte-before (a .out .now) (l .out) (a .at) (l .i) (l .i - 1) (a .n) (a .x) p (l .inv .0) (l .inv .3)),
+      rw (e .0, b) (byte-before (a .out .now) (l .out) (a .at) (l .i) (l .i - 1) (a .n) (a .x) p (l .inv .0) (l .inv .3)),
     )
 
 returns : tie.Need-returns Inv-loop μ-loop
@@ -54,10 +53,10 @@ put-bytes-spec =
     Inv-loop
     μ-loop
     loop-holds
-    (λ c. search needs)
-    (λ c κs. search needs)
-    (λ c κs. search needs)
-    (λ c. search needs)
+    (λ c. omega arith)
+    (λ c κs. tt)
+    (λ c κs. tt)
+    (λ c. omega arith)
     loop-again
     (λ c. search needs)
     returns)

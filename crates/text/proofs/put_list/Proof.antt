@@ -1,11 +1,12 @@
 -- `put_list` meets its contract. The invariant: the words before word `k` are stored. Assumes nothing.
-use Prim.Native.Nat.{_≤_, _<_, _+_, _-_, _%_}
+use Prim.Native.Nat.{_≤_, _-_}
 use mathlib.Core.Path.{_≡_, refl, sym, ap, _∙_}
 use native.Mathlib.Omega.{arith}
-use lib.ListN.{length, set, length-set}
+use lib.ListN.{length}
 use borrow.Author.Needs.{needs}
 use borrow.Author.Tests.{lt-leb}
-use Rattle.text.specs.Text.{decimal, listStored}
+use Rattle.text.specs.Text.{decimal}
+use Rattle.text.proofs.Decimals.{stored-out}
 use Rattle.text.proofs.Lists.{Listed, listed-none, listed-more, cut, whole}
 use Rattle.text.proofs.put_list.Statement.{statement}
 use Rattle.text.proofs.put_list.Tie as tie
@@ -44,8 +45,8 @@ loop-again c =
     let d = sym (ap decimal (w .word .ensures)) ∙ sym (p .parse-decimal .ensures) ∙ y .x .given .1 in
     let m = listed-more _ _ _ _ _ _ (l .k) (l .out) (l .inv .2) (l .inv .0) (omega arith) x d (c .before .before .before .before .before .if1 .left) in
     let b : c .before .before .before .low .result ≡ x = c .before .before .before .low .ensures ∙ omega arith in
-    let e = ap (λ r. r .1) (c .before .before .set .ensures) in
-    (omega arith, ap length e ∙ length-set (l .out) _ _ ∙ l .inv .1, rw (e, b) m)
+    let e = stored-out _ _ (l .out) _ _ (c .before .before .set .ensures) in
+    (omega arith, e .1 ∙ l .inv .1, rw (e .0, b) m)
 
 returns-3 : tie.Need-returns-3 Inv-loop μ-loop
 returns-3 c =

@@ -26,4 +26,4 @@ returns-3 c =
 pub set-spec : {M : Type 1} → statement M
 set-spec =
     tie.close
-    (tie.spec (λ c. search needs) (λ c. search needs) (λ c. search needs) (λ c. search needs) returns returns-2 returns-3)
+    (tie.spec (λ c. omega arith) (λ c. omega arith) (λ c. omega arith) (λ c. search needs) returns returns-2 returns-3)

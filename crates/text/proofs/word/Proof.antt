@@ -1,9 +1,8 @@
 -- `word` meets its contract. The invariant: from `at` on, it is word `k - i`. Assumes nothing.
 use Prim.Native.Nat.{suc, _≤_, _+_, _-_}
-use mathlib.Core.Path.{_≡_, refl, sym, ap, _∙_}
+use mathlib.Core.Path.{_≡_, sym, _∙_}
 use native.Mathlib.Omega.{arith}
 use lib.ListN.{length, drop}
-use borrow.Author.Needs.{needs}
 use Rattle.text.specs.Text.{wordAt}
 use Rattle.text.proofs.Lists.{word-next, word-here, word-within}
 use Rattle.text.proofs.word.Statement.{statement}
