@@ -1,4 +1,4 @@
--- Laws of decimal numbers. Assumes nothing.
+-- Laws of characters, of decimal numbers, and of storing them. Assumes nothing.
 --     stored-out        the buffer with a byte stored
 --     in-range          what is in a range
 --     digit-most        how large a digit is
