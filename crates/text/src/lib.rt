@@ -1,6 +1,14 @@
 // Text: lines and words, hexadecimal and decimal; single bytes of a buffer; and, in `out`, printing.
-ghost use Prim.Native.Nat.{_-_, _≤_};
-ghost use lib.ListN.{length};
+ghost use mathlib.Core.Path.{_≡_};
+ghost use Prim.Native.Nat.{_+_, _-_, _*_, _≤_, _^_};
+ghost use lib.ListN.{length, getD, drop};
+ghost use lib.Seq.{sets};
+ghost use lib.Dec.{leb};
+ghost use Rattle.refusal.specs.Outcome.{pick};
+ghost use Rattle.words.specs.Words.{bytesOf};
+ghost use Rattle.text.specs.Text.{stored, isGap, before, askedOf, wordAt, inRange, digitOf, decimal, numberStored, listStored, digitStored, hexStored, sixteenStored};
+use words::and;
+use words::or;
 
 pub mod out;
 
@@ -22,7 +30,9 @@ pub enum DecimalText {
 }
 
 // Byte `i` from `at` on; 0 if there is none.
-pub fn byte(bytes: &[u8], at: usize, i: usize) -> u8 {
+pub fn byte(bytes: &[u8], at: usize, i: usize) -> u8
+    ensures { λ r. ⌜ r ≡ getD (now (bytes .entry)) (at + i) 0 ⌝ }
+{
     if at < bytes.len() {
         if i < bytes.len() - at {
             return bytes[at + i];
@@ -32,7 +42,9 @@ pub fn byte(bytes: &[u8], at: usize, i: usize) -> u8 {
 }
 
 // Stores byte `i` from `at` on; tells whether there is room.
-pub fn set(out: &mut [u8], at: usize, i: usize, b: u8) -> bool {
+pub fn set(out: &mut [u8], at: usize, i: usize, b: u8) -> bool
+    ensures { λ r. ⌜ (r, now (out .exit)) ≡ stored (at + i) b (now (out .entry)) ⌝ }
+{
     if at < out.len() {
         if i < out.len() - at {
             out[at + i] = b;
@@ -43,21 +55,32 @@ pub fn set(out: &mut [u8], at: usize, i: usize, b: u8) -> bool {
 }
 
 // What parts words: the end of a line alone, or any space and `sep`.
-fn is_gap(b: u8, sep: u8) -> bool {
+fn is_gap(b: u8, sep: u8) -> bool
+    ensures { λ r. ⌜ r ≡ isGap sep b ⌝ }
+{
     if sep == b'\n' {
         return b == sep;
     }
-    b == b' ' || b == b'\t' || b == b'\n' || b == b'\r' || b == sep
+    or(
+        b == b' ',
+        or(b == b'\t', or(b == b'\n', or(b == b'\r', b == sep))),
+    )
+}
+
+// A test, or its contrary.
+fn asked(yes: bool, test: bool) -> bool
+    ensures { λ r. ⌜ r ≡ askedOf yes test ⌝ }
+{
+    if yes { test } else { !test }
 }
 
 // The first place from `at` on that is a gap, or that is none; else the end.
 fn run(text: &[u8], at: usize, sep: u8, gap: bool) -> usize
-    requires { ⌜ at ≤ length (now text) ⌝ }
-    ensures { λ r. ⌜ (at ≤ r) × (r ≤ length (now (text .entry))) ⌝ }
+    ensures { λ r. ⌜ r ≡ at + before (λ c. askedOf gap (isGap sep c)) (drop at (now (text .entry))) ⌝ }
 {
     let mut i = at;
     while i < text.len() {
-        if is_gap(text[i], sep) == gap {
+        if asked(gap, is_gap(text[i], sep)) {
             return i;
         }
         i += 1;
@@ -66,7 +89,9 @@ fn run(text: &[u8], at: usize, sep: u8, gap: bool) -> usize
 }
 
 // Word `k` of the text, counted from 0; empty if there are fewer. With the end of a line for `sep`, line `k`, of those that are not empty.
-pub fn word<'a>(text: &'a [u8], k: usize, sep: u8) -> &'a [u8] {
+pub fn word<'a>(text: &'a [u8], k: usize, sep: u8) -> &'a [u8]
+    ensures { λ r. ⌜ now r ≡ wordAt sep k (now (text .entry)) ⌝ }
+{
     let mut at: usize = 0;
     let mut i: usize = 0;
     while i < k {
@@ -104,26 +129,36 @@ pub fn line_at<'a>(text: &'a [u8], at: usize) -> &'a [u8]
     &text[at..end]
 }
 
+fn in_range(low: u8, high: u8, b: u8) -> bool
+    ensures { λ r. ⌜ r ≡ inRange low high b ⌝ }
+{
+    and(low <= b, b <= high)
+}
+
 // What a character of hexadecimal text stands for: a digit, or a gap, or something strange.
 const GAP: u8 = 16;
 
 const STRANGE: u8 = 17;
 
-fn digit(b: u8) -> u8 {
-    if b'0' <= b && b <= b'9' {
-        return b % 16;
+fn digit(b: u8) -> u8
+    ensures { λ r. ⌜ r ≡ digitOf b ⌝ }
+{
+    if in_range(b'0', b'9', b) {
+        return b - b'0';
     }
-    if b'a' <= b && b <= b'f' {
-        return b % 16 + 9;
+    if in_range(b'a', b'f', b) {
+        return b - b'a' + 10;
     }
-    if b'A' <= b && b <= b'F' {
-        return b % 16 + 9;
+    if in_range(b'A', b'F', b) {
+        return b - b'A' + 10;
     }
     if is_gap(b, b':') { GAP } else { STRANGE }
 }
 
 // Stores the digit behind the `digits` before it; tells whether there is room.
-fn put_digit(out: &mut [u8], at: usize, room: usize, digits: usize, d: u8) -> bool {
+fn put_digit(out: &mut [u8], at: usize, room: usize, digits: usize, d: u8) -> bool
+    ensures { λ r. ⌜ (r, now (out .exit)) ≡ digitStored at room digits d (now (out .entry)) ⌝ }
+{
     let k = digits / 2;
     if room <= k {
         return false;
@@ -136,7 +171,9 @@ fn put_digit(out: &mut [u8], at: usize, room: usize, digits: usize, d: u8) -> bo
 }
 
 // Puts the bytes that hexadecimal text holds into `out` from `at` on, at most `room` of them. Gaps and colons are skipped.
-pub fn parse_hex(text: &[u8], out: &mut [u8], at: usize, room: usize) -> Hex {
+pub fn parse_hex(text: &[u8], out: &mut [u8], at: usize, room: usize) -> Hex
+    ensures { λ r. ⌜ (r, now (out .exit)) ≡ hexStored (now (text .entry)) at room (now (out .entry)) ⌝ }
+{
     let mut digits: usize = 0;
     let mut i: usize = 0;
     while i < text.len() {
@@ -159,14 +196,18 @@ pub fn parse_hex(text: &[u8], out: &mut [u8], at: usize, room: usize) -> Hex {
 }
 
 // The number and one more digit. Whatever is not below 2^62 then may grow further: no operation takes it.
-fn appended(value: u64, digit: u8) -> u64 {
+fn appended(value: u64, digit: u8) -> u64
+    ensures { λ r. ⌜ r ≡ pick (leb (2 ^ 60) value) (2 ^ 64 - 1) (10 * value + digit) ⌝ }
+{
     if 1 << 60 <= value {
         return u64::MAX;
     }
     10 * value + words::wide(digit)
 }
 
-pub fn parse_decimal(text: &[u8]) -> DecimalText {
+pub fn parse_decimal(text: &[u8]) -> DecimalText
+    ensures { λ r. ⌜ r ≡ decimal (now (text .entry)) ⌝ }
+{
     if text.len() == 0 {
         return DecimalText::Strange;
     }
@@ -184,7 +225,9 @@ pub fn parse_decimal(text: &[u8]) -> DecimalText {
 }
 
 // Stores a number in `n` bytes, high byte first.
-fn put_bytes(out: &mut [u8], at: usize, n: usize, x: u64) {
+fn put_bytes(out: &mut [u8], at: usize, n: usize, x: u64)
+    ensures { λ r. ⌜ now (out .exit) ≡ sets (now (out .entry)) at (bytesOf n x) ⌝ }
+{
     let mut rest = x;
     let mut i = n;
     while 0 < i {
@@ -195,7 +238,9 @@ fn put_bytes(out: &mut [u8], at: usize, n: usize, x: u64) {
 }
 
 // A decimal number of at most `most`, in `n` bytes; tells whether it is one.
-pub fn put_number(digits: &[u8], most: u64, out: &mut [u8], at: usize, n: usize) -> bool {
+pub fn put_number(digits: &[u8], most: u64, out: &mut [u8], at: usize, n: usize) -> bool
+    ensures { λ r. ⌜ (r, now (out .exit)) ≡ numberStored most at n (now (out .entry)) (decimal (now (digits .entry))) ⌝ }
+{
     let DecimalText::Number(x) = parse_decimal(digits) else {
         return false;
     };
@@ -207,7 +252,9 @@ pub fn put_number(digits: &[u8], most: u64, out: &mut [u8], at: usize, n: usize)
 }
 
 // The words `from` to `to`, decimal numbers below 256, a byte for each; tells whether they are there and no word behind them.
-pub fn put_list(text: &[u8], from: usize, to: usize, sep: u8, out: &mut [u8], at: usize) -> bool {
+pub fn put_list(text: &[u8], from: usize, to: usize, sep: u8, out: &mut [u8], at: usize) -> bool
+    ensures { λ r. ⌜ (r, now (out .exit)) ≡ listStored (now (text .entry)) from to sep at (now (out .entry)) ⌝ }
+{
     let mut k = from;
     while k < to {
         let DecimalText::Number(x) = parse_decimal(word(text, k, sep)) else {
@@ -224,7 +271,9 @@ pub fn put_list(text: &[u8], from: usize, to: usize, sep: u8, out: &mut [u8], at
 }
 
 // Exactly 16 bytes, in hexadecimal; tells whether they are.
-pub fn put_16(digits: &[u8], out: &mut [u8], at: usize) -> bool {
+pub fn put_16(digits: &[u8], out: &mut [u8], at: usize) -> bool
+    ensures { λ r. ⌜ (r, now (out .exit)) ≡ sixteenStored (hexStored (now (digits .entry)) at 16 (now (out .entry))) ⌝ }
+{
     match parse_hex(digits, out, at, 16) {
         Hex::Bytes(n) => n == 16,
         _ => false,
