@@ -1,10 +1,10 @@
 -- What tidying writes, as it is found: from the numbers, and from where the values stand in the extension.
-use Prim.Native.Nat.{ℕ, _+_, _≤_}
+use Prim.Native.Nat.{ℕ, _+_, _-_, _≤_}
 use mathlib.Core.List.{List, _++_}
 use mathlib.Core.Bool.{Bool}
 use lib.ListN.{length, getD, take, drop}
 use Rattle.marks.specs.Mark.{marked}
-use Rattle.catalogue.specs.Catalogue.{Kind, number, flag, cid, token, address, reserved, idAt, kindAt}
+use Rattle.catalogue.specs.Catalogue.{Kind, number, flag, cid, token, address, reserved, places, idAt, kindAt}
 use Rattle.wire.specs.Wire.{dueValue, dueNumber, numberAt}
 use Rattle.wire.specs.Stored.{each}
 use mathlib.Core.Path.{_≡_}
@@ -31,7 +31,7 @@ pieceFor id s m kept lens p = pieceOf (kindAt p) (marked m p) id (getD kept p 0)
 
 -- from place 12 on, and all of them
 unfoldable pub others : List ℕ → ℕ → List ℕ → List ℕ → List (List ℕ)
-others s m kept lens = each (λ i. pieceFor (idAt (12 + i)) s m kept lens (12 + i)) 9
+others s m kept lens = each (λ i. pieceFor (idAt (12 + i)) s m kept lens (12 + i)) (places - 12)
 
 unfoldable pub pieces : List ℕ → ℕ → List ℕ → List ℕ → List (List ℕ)
 pieces s m kept lens = each (numberAt kept) 11 ++ others s m kept lens
