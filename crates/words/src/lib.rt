@@ -65,28 +65,19 @@ pub fn word8(a: u8, b: u8, c: u8, d: u8, e: u8, f: u8, g: u8, h: u8) -> u64
     (word4(e, f, g, h) << 32) | word4(a, b, c, d)
 }
 
-// The first eight bytes as a number, low byte first. A function of its own: so the compiler makes one load of them.
+// The first bytes of a slice as a number, low byte first. Functions of their own: so the compiler makes one load of them.
+fn front4(v: &[u8]) -> u64
+    requires { ⌜ 4 ≤ length (now v) ⌝ }
+    ensures { λ r. ⌜ Word (elements 4 0 (now (v .entry))) r ⌝ }
+{
+    word4(v[0], v[1], v[2], v[3])
+}
+
 fn front8(v: &[u8]) -> u64
     requires { ⌜ 8 ≤ length (now v) ⌝ }
     ensures { λ r. ⌜ Word (elements 8 0 (now (v .entry))) r ⌝ }
 {
     word8(v[0], v[1], v[2], v[3], v[4], v[5], v[6], v[7])
-}
-
-// The number of the same bytes in the other order.
-pub fn swapped(w: u64) -> u64
-    ensures { λ r. ⌜ r ≡ wordOf (bytesOf 8 w) ⌝ }
-{
-    word8(
-        low(w >> 56),
-        low(w >> 48),
-        low(w >> 40),
-        low(w >> 32),
-        low(w >> 24),
-        low(w >> 16),
-        low(w >> 8),
-        low(w),
-    )
 }
 
 // The first eight bytes as a number, high byte first; 0 if there are fewer.
@@ -113,6 +104,14 @@ pub fn bytes8(x: u64) -> [u8; 8]
         low(x >> 8),
         low(x),
     ]
+}
+
+// The number of the same bytes in the other order.
+pub fn swapped(w: u64) -> u64
+    ensures { λ r. ⌜ r ≡ wordOf (bytesOf 8 w) ⌝ }
+{
+    let bytes = bytes8(w);
+    front8(&bytes)
 }
 
 // Whether 24 bytes, eight to a word, are zero from byte `n` on.
@@ -144,9 +143,10 @@ struct ThreeWords {
 fn words20(b: &[u8; 20]) -> ThreeWords
     ensures { λ r. ⌜ WordsOf20 (now (b .entry)) (r .u) (r .v) (r .w) ⌝ }
 {
-    let u = word8(b[0], b[1], b[2], b[3], b[4], b[5], b[6], b[7]);
-    let v = word8(b[8], b[9], b[10], b[11], b[12], b[13], b[14], b[15]);
-    let w = word4(b[16], b[17], b[18], b[19]);
+    let s = &b[..];
+    let u = front8(s);
+    let v = front8(&s[8..]);
+    let w = front4(&s[16..]);
     ThreeWords { u, v, w }
 }
 
@@ -170,15 +170,16 @@ pub fn zero20_from(b: &[u8; 20], n: usize) -> bool
 pub fn zero16_from(b: &[u8; 16], n: usize) -> bool
     ensures { λ r. ⌜ r ≡ zeros (drop n (elements 16 0 (now (b .entry)))) ⌝ }
 {
-    let u = word8(b[0], b[1], b[2], b[3], b[4], b[5], b[6], b[7]);
-    let v = word8(b[8], b[9], b[10], b[11], b[12], b[13], b[14], b[15]);
+    let s = &b[..];
+    let u = front8(s);
+    let v = front8(&s[8..]);
     zero_from(u, v, 0, n)
 }
 
 pub fn zero4(b: &[u8; 4]) -> bool
     ensures { λ r. ⌜ r ≡ zeros (elements 4 0 (now (b .entry))) ⌝ }
 {
-    word4(b[0], b[1], b[2], b[3]) == 0
+    front4(b) == 0
 }
 
 // Whether all bytes are zero.
