@@ -59,12 +59,6 @@ pub fn word4(a: u8, b: u8, c: u8, d: u8) -> u64
     (word2(c, d) << 16) | word2(a, b)
 }
 
-pub fn word8(a: u8, b: u8, c: u8, d: u8, e: u8, f: u8, g: u8, h: u8) -> u64
-    ensures { λ r. ⌜ Word (a ∷ b ∷ c ∷ d ∷ e ∷ f ∷ g ∷ h ∷ []) r ⌝ }
-{
-    (word4(e, f, g, h) << 32) | word4(a, b, c, d)
-}
-
 // The first bytes of a slice as a number, low byte first. Functions of their own: so the compiler makes one load of them.
 fn front4(v: &[u8]) -> u64
     requires { ⌜ 4 ≤ length (now v) ⌝ }
@@ -77,7 +71,7 @@ fn front8(v: &[u8]) -> u64
     requires { ⌜ 8 ≤ length (now v) ⌝ }
     ensures { λ r. ⌜ Word (elements 8 0 (now (v .entry))) r ⌝ }
 {
-    word8(v[0], v[1], v[2], v[3], v[4], v[5], v[6], v[7])
+    (front4(&v[4..]) << 32) | front4(v)
 }
 
 // The first eight bytes as a number, high byte first; 0 if there are fewer.
@@ -119,16 +113,13 @@ pub fn zero_from(u: u64, v: u64, w: u64, n: usize) -> bool
     ensures { λ r. ⌜ r ≡ eqb ((u + 2 ^ 64 * (v + 2 ^ 64 * w)) / 2 ^ (8 * n)) 0 ⌝ }
 {
     if n < 8 {
-        let k = (8 * n) as u32;
-        return (u >> k) | (v | w) == 0;
+        return (u >> (8 * n)) | (v | w) == 0;
     }
     if n < 16 {
-        let k = (8 * (n - 8)) as u32;
-        return (v >> k) | w == 0;
+        return (v >> (8 * (n - 8))) | w == 0;
     }
     if n < 24 {
-        let k = (8 * (n - 16)) as u32;
-        return w >> k == 0;
+        return w >> (8 * (n - 16)) == 0;
     }
     true
 }
