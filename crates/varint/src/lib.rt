@@ -11,6 +11,7 @@ use refusal::Counted;
 use refusal::Refusal;
 use words::big8;
 use words::low;
+use words::put_word;
 use words::wide;
 use words::word2;
 use words::word4;
@@ -192,20 +193,6 @@ fn put4(x: u64, out: &mut [u8])
     out[3] = low(x);
 }
 
-fn put8(x: u64, out: &mut [u8])
-    requires { ⌜ (x < 2 ^ 62) × (7 < length (now out)) ⌝ }
-    ensures { λ r. ⌜ now (out .exit) ≡ front (form 3 x) (now (out .entry)) ⌝ }
-{
-    out[0] = low((3 << 6) | (x >> 56));
-    out[1] = low(x >> 48);
-    out[2] = low(x >> 40);
-    out[3] = low(x >> 32);
-    out[4] = low(x >> 24);
-    out[5] = low(x >> 16);
-    out[6] = low(x >> 8);
-    out[7] = low(x);
-}
-
 // Stores the shortest form, for which there is room, and gives its length.
 fn put(x: u64, out: &mut [u8]) -> usize
     requires { ⌜ (x < 2 ^ 62) × (length (numberBytes x) ≤ length (now out)) ⌝ }
@@ -223,6 +210,6 @@ fn put(x: u64, out: &mut [u8]) -> usize
         put4(x, out);
         return 4;
     }
-    put8(x, out);
+    put_word((3 << 62) | x, out);
     VarInt::MAX_SIZE
 }

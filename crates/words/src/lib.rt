@@ -6,7 +6,7 @@ ghost use Prim.Native.Nat.{_+_, _*_, _/_, _%_, _^_, _≤_, _<_, min};
 ghost use lib.Dec.{eqb, leb};
 ghost use lib.ListN.{length, take, drop};
 ghost use Rattle.refusal.specs.Outcome.{pick};
-ghost use Rattle.words.specs.Words.{zeros, sameBytes, Word, WordsOf20, elements, valueFrom, bytesOf, wordOf};
+ghost use Rattle.words.specs.Words.{zeros, sameBytes, Word, WordsOf20, elements, valueFrom, bytesOf, copied};
 
 pub fn and(a: bool, b: bool) -> bool
     ensures { λ r. ⌜ r ≡ (a && b) ⌝ }
@@ -74,16 +74,6 @@ fn front8(v: &[u8]) -> u64
     (front4(&v[4..]) << 32) | front4(v)
 }
 
-// The first eight bytes as a number, high byte first; 0 if there are fewer.
-pub fn big8(v: &[u8]) -> u64
-    ensures { λ r. ⌜ r ≡ pick (leb 8 (length (now (v .entry)))) (valueFrom 0 (take 8 (now (v .entry)))) 0 ⌝ }
-{
-    if v.len() < 8 {
-        return 0;
-    }
-    swapped(front8(v))
-}
-
 // The eight bytes of a number, high byte first.
 pub fn bytes8(x: u64) -> [u8; 8]
     ensures { λ r. ⌜ r ≡ bytesOf 8 x ⌝ }
@@ -100,12 +90,37 @@ pub fn bytes8(x: u64) -> [u8; 8]
     ]
 }
 
-// The number of the same bytes in the other order.
-pub fn swapped(w: u64) -> u64
-    ensures { λ r. ⌜ r ≡ wordOf (bytesOf 8 w) ⌝ }
+// Copies bytes to the front; nothing if there is no room.
+pub fn copy(bytes: &[u8], out: &mut [u8])
+    ensures { λ r. ⌜ now (out .exit) ≡ copied (now (bytes .entry)) (now (out .entry)) ⌝ }
 {
-    let bytes = bytes8(w);
-    front8(&bytes)
+    if out.len() < bytes.len() {
+        return;
+    }
+    let mut i: usize = 0;
+    while i < bytes.len() {
+        out[i] = bytes[i];
+        i += 1;
+    }
+}
+
+// Stores the eight bytes of a number at the front, high byte first; nothing if there is no room. The compiler makes one store of them.
+pub fn put_word(x: u64, out: &mut [u8])
+    ensures { λ r. ⌜ now (out .exit) ≡ copied (bytesOf 8 x) (now (out .entry)) ⌝ }
+{
+    let bytes = bytes8(x);
+    copy(&bytes, out);
+}
+
+// The first eight bytes as a number, high byte first; 0 if there are fewer.
+pub fn big8(v: &[u8]) -> u64
+    ensures { λ r. ⌜ r ≡ pick (leb 8 (length (now (v .entry)))) (valueFrom 0 (take 8 (now (v .entry)))) 0 ⌝ }
+{
+    if v.len() < 8 {
+        return 0;
+    }
+    let turned = bytes8(front8(v));
+    front8(&turned)
 }
 
 // Whether 24 bytes, eight to a word, are zero from byte `n` on.

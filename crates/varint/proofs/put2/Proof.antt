@@ -9,9 +9,6 @@ use borrow.Author.Needs.{needs}
 use Rattle.varint.proofs.put2.Statement.{statement}
 use Rattle.varint.proofs.put2.Tie as tie
 
-slice-write-out-2 : tie.Need-slice-write-out-2
-slice-write-out-2 c = simp length-set (omega arith)
-
 returns : tie.Need-returns
 unfolding form
 returns c =
@@ -23,4 +20,4 @@ returns c =
 pub put2-spec : {M : Type 1} → statement M
 put2-spec =
     tie.close
-    (tie.spec (λ c κs. search needs) (λ c. search needs) (λ c κs. search needs) slice-write-out-2 (λ c. search needs) returns)
+    (tie.spec (λ c κs. search needs) (λ c. search needs) (λ c κs. search needs) (λ c. simp length-set (omega arith)) (λ c. search needs) returns)

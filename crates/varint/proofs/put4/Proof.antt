@@ -9,15 +9,6 @@ use borrow.Author.Needs.{needs}
 use Rattle.varint.proofs.put4.Statement.{statement}
 use Rattle.varint.proofs.put4.Tie as tie
 
-slice-write-out-2 : tie.Need-slice-write-out-2
-slice-write-out-2 c = simp length-set (omega arith)
-
-slice-write-out-3 : tie.Need-slice-write-out-3
-slice-write-out-3 c = simp length-set (omega arith)
-
-slice-write-out-4 : tie.Need-slice-write-out-4
-slice-write-out-4 c = simp length-set (omega arith)
-
 returns : tie.Need-returns
 unfolding form
 returns c =
@@ -33,10 +24,10 @@ put4-spec =
     (λ c κs. search needs)
     (λ c. search needs)
     (λ c κs. search needs)
-    slice-write-out-2
+    (λ c. simp length-set (omega arith))
     (λ c κs. search needs)
-    slice-write-out-3
+    (λ c. simp length-set (omega arith))
     (λ c κs. search needs)
-    slice-write-out-4
+    (λ c. simp length-set (omega arith))
     (λ c. search needs)
     returns)
