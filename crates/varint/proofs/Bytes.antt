@@ -74,6 +74,13 @@ length-form k v h = let r = width-range k h in rw length-bytesOf (omega arith)
 pub high-lt : (n v : ℕ) → v < 64 * 256 ^ n → v / 256 ^ n < 64
 high-lt n v h = div-lt-iff-lt-mul (pow-pos n) .1 h
 
+-- the bytes of a form, stored one after another
+pub form-stored : (k v : ℕ) (out : List ℕ) → k ≤ 3 → v < 64 * 256 ^ (2 ^ k - 1) → 2 ^ k ≤ length out
+    → sets out 0 (bitOr (k * 64) (v / 256 ^ (2 ^ k - 1)) % 256 ∷ bytesOf (2 ^ k - 1) v) ≡ front (form k v) out
+unfolding form
+form-stored k v out h l r =
+    rw (tagged k (v / 256 ^ (2 ^ k - 1)) h (high-lt _ v l)) (stored (form k v) out (omega (arith, length-form k v h)))
+
 pub read-none : (s : List ℕ) → length s ≡ 0 → refused 3 ≡ readNumber s
 unfolding readNumber
 read-none [] h = refl
