@@ -6,7 +6,7 @@ ghost use Prim.Native.Nat.{_+_, _*_, _/_, _%_, _^_, _≤_, _<_, min};
 ghost use lib.Dec.{eqb, leb};
 ghost use lib.ListN.{length, take, drop};
 ghost use Rattle.refusal.specs.Outcome.{pick};
-ghost use Rattle.words.specs.Words.{zeros, sameBytes, Word, WordsOf20, elements, valueFrom, bytesOf, copied};
+ghost use Rattle.words.specs.Words.{zeros, sameBytes, Word, WordsOf20, elements, valueFrom, bytesOf, wordOf, copied};
 
 pub fn and(a: bool, b: bool) -> bool
     ensures { λ r. ⌜ r ≡ (a && b) ⌝ }
@@ -112,6 +112,14 @@ pub fn put_word(x: u64, out: &mut [u8])
     copy(&bytes, out);
 }
 
+// The number of the same bytes in the other order. A function of its own: so the compiler makes one instruction of it.
+fn swapped(w: u64) -> u64
+    ensures { λ r. ⌜ r ≡ wordOf (bytesOf 8 w) ⌝ }
+{
+    let bytes = bytes8(w);
+    front8(&bytes)
+}
+
 // The first eight bytes as a number, high byte first; 0 if there are fewer.
 pub fn big8(v: &[u8]) -> u64
     ensures { λ r. ⌜ r ≡ pick (leb 8 (length (now (v .entry)))) (valueFrom 0 (take 8 (now (v .entry)))) 0 ⌝ }
@@ -119,8 +127,7 @@ pub fn big8(v: &[u8]) -> u64
     if v.len() < 8 {
         return 0;
     }
-    let turned = bytes8(front8(v));
-    front8(&turned)
+    swapped(front8(v))
 }
 
 // Whether 24 bytes, eight to a word, are zero from byte `n` on.
