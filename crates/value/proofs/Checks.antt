@@ -32,13 +32,9 @@ module _ (a : ℕ) (v : List ℕ) where
   unfolding checkKind illegal fits
   number-unread e k = rw k
 
-  pub number-fits : (x n : ℕ) → readNumber v ≡ accepted (x, n) → n ≡ length v → accepted x ≡ checkKind number a v
+  pub number-read : (x n : ℕ) → readNumber v ≡ accepted (x, n) → judged (eqb n (length v)) x ≡ checkKind number a v
   unfolding checkKind illegal fits keptOf
-  number-fits x n k e = rw (k, eq-eqb n (length v) e)
-
-  pub number-misfit : (x n : ℕ) → readNumber v ≡ accepted (x, n) → (n ≡ length v → ⊥) → refused Misfit ≡ checkKind number a v
-  unfolding checkKind illegal fits
-  number-misfit x n k e = rw (k, ne-eqb n (length v) e)
+  number-read x n k = rw k
 
   -- flags, IDs and the token
   pub by-length : (k : Kind) (t : Bool) → illegal k v ≡ false → keptOf k a v ≡ a → t ≡ fits k v → pick t (accepted a) (refused Misfit) ≡ checkKind k a v
