@@ -144,10 +144,8 @@ fn may_repeat(place: usize) -> bool
 pub fn receive(met: bool, place: usize, start: usize, len: usize, rest: &[u8]) -> Value
     ensures { λ r. ⌜ valueOutcome r ≡ receiveValue met place start (take len (now (rest .entry))) ⌝ }
 {
-    if met {
-        if !may_repeat(place) {
-            return Value::Wrong(Fault::SecondCopy);
-        }
+    if and(met, !may_repeat(place)) {
+        return Value::Wrong(Fault::SecondCopy);
     }
     check_value(place, start, len, rest)
 }
