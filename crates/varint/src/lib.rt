@@ -1,6 +1,6 @@
 // Variable-length integers (RFC 9000 section 16): `VarInt` of quinn's varint.rs.
 ghost use mathlib.Core.Path.{_≡_};
-ghost use Prim.Native.Nat.{_+_, _*_, _/_, _%_, _^_, _<_, _≤_};
+ghost use Prim.Native.Nat.{_/_, _^_, _<_, _≤_};
 ghost use lib.ListN.{length, getD};
 ghost use Rattle.refusal.specs.Outcome.{accepted, front};
 ghost use Rattle.words.specs.Words.{bytesOf};
