@@ -13,8 +13,7 @@ ghost use Rattle.laying.specs.Laying.{laidNumber, laidField};
 use varint::VarInt;
 use wire::put_bytes;
 use words::and;
-use words::low;
-use words::swapped;
+use words::put_word;
 
 // Room for any identifier, the length of a number, and any number.
 const WIDEST: usize = 17;
@@ -40,22 +39,6 @@ fn wide_form(tag: u32, x: u64) -> u64
 {
     let bits: u32 = 8 << tag;
     (((tag as u64) << (bits - 2)) | x) << (64 - bits)
-}
-
-// Stores a number's eight bytes, high byte first. Of the bytes of the swapped number, low byte first, the compiler makes one store.
-fn put_word(y: u64, out: &mut [u8])
-    requires { ⌜ 8 ≤ length (now out) ⌝ }
-    ensures { λ r. ⌜ now (out .exit) ≡ front (bytesOf 8 y) (now (out .entry)) ⌝ }
-{
-    let w = swapped(y);
-    out[0] = low(w);
-    out[1] = low(w >> 8);
-    out[2] = low(w >> 16);
-    out[3] = low(w >> 24);
-    out[4] = low(w >> 32);
-    out[5] = low(w >> 40);
-    out[6] = low(w >> 48);
-    out[7] = low(w >> 56);
 }
 
 // Stores a number's shortest form, and zeros behind it, up to eight bytes; gives the form's length.

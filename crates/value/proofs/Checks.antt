@@ -32,13 +32,9 @@ module _ (a : ℕ) (v : List ℕ) where
   unfolding checkKind illegal fits
   number-unread e k = rw k
 
-  pub number-fits : (x n : ℕ) → readNumber v ≡ accepted (x, n) → n ≡ length v → accepted x ≡ checkKind number a v
+  pub number-read : (x n : ℕ) → readNumber v ≡ accepted (x, n) → judged (eqb n (length v)) x ≡ checkKind number a v
   unfolding checkKind illegal fits keptOf
-  number-fits x n k e = rw (k, eq-eqb n (length v) e)
-
-  pub number-misfit : (x n : ℕ) → readNumber v ≡ accepted (x, n) → (n ≡ length v → ⊥) → refused Misfit ≡ checkKind number a v
-  unfolding checkKind illegal fits
-  number-misfit x n k e = rw (k, ne-eqb n (length v) e)
+  number-read x n k = rw k
 
   -- flags, IDs and the token
   pub by-length : (k : Kind) (t : Bool) → illegal k v ≡ false → keptOf k a v ≡ a → t ≡ fits k v → pick t (accepted a) (refused Misfit) ≡ checkKind k a v
@@ -265,17 +261,15 @@ fits-longest t n (suc (suc i)) j ht hn hi hj = absurd (omega arith)
 pub for-place : (p : ℕ) (k : Kind) (a : ℕ) (v : List ℕ) (o : Result Fault ℕ) → kindAt p ≡ k → o ≡ checkKind k a v → o ≡ checkValue p a v
 for-place p k a v o e h = rw e h
 
-pub second-copy : (p a : ℕ) (v : List ℕ) (met t : Bool) → met ≡ true → t ≡ mayRepeat p → t ≡ false → refused SecondCopy ≡ receiveValue met p a v
-unfolding receiveValue
-second-copy p a v met t m e f = rw (m, ← e, f)
+-- a second copy that must not be
+module _ (p a : ℕ) (v : List ℕ) (met : Bool) where
+  pub second-copy : (met && not (mayRepeat p)) ≡ true → refused SecondCopy ≡ receiveValue met p a v
+  unfolding receiveValue
+  second-copy e = rw e
 
-pub no-copy : (p a : ℕ) (v : List ℕ) (met : Bool) (o : Result Fault ℕ) → o ≡ checkValue p a v → (met && not (mayRepeat p)) ≡ false → o ≡ receiveValue met p a v
-unfolding receiveValue
-no-copy p a v met o h f = rw f h
-
-pub repeats : (met t : Bool) → t ≡ true → (met && not t) ≡ false
-repeats true t e = rw e
-repeats false t e = refl
+  pub no-copy : (met && not (mayRepeat p)) ≡ false → receiveValue met p a v ≡ checkValue p a v
+  unfolding receiveValue
+  no-copy e = rw e
 
 -- WHAT A VALUE THAT WAS RECEIVED IS
 pub record Taken (p a : ℕ) (v : List ℕ) (x : ℕ) : Type 0 where

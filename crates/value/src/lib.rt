@@ -23,6 +23,7 @@ use varint::Decoded;
 use varint::VarInt;
 use words::all_zero;
 use words::and;
+use words::or;
 
 // What is kept of a value: the number that it holds or, for another kind, where it starts; or what is wrong.
 pub enum Value {
@@ -37,11 +38,7 @@ fn check_number(start: usize, v: &[u8]) -> Value
     let Decoded::Value(x, n) = VarInt::decode(v) else {
         return Value::Wrong(Fault::Misfit);
     };
-    if n == v.len() {
-        Value::Fits(x)
-    } else {
-        Value::Wrong(Fault::Misfit)
-    }
+    fits_if(n == v.len(), x)
 }
 
 // A preferred address: both families absent is found before leftover bytes.
@@ -140,21 +137,15 @@ fn check_value(place: usize, start: usize, len: usize, rest: &[u8]) -> Value
 fn may_repeat(place: usize) -> bool
     ensures { λ r. ⌜ r ≡ mayRepeat place ⌝ }
 {
-    if place == GREASE_QUIC_BIT {
-        true
-    } else {
-        place == MIN_ACK_DELAY
-    }
+    or(place == GREASE_QUIC_BIT, place == MIN_ACK_DELAY)
 }
 
 // A value for a place, which was met before or not: `len` bytes at the front of `rest`, which starts at `start` of the extension.
 pub fn receive(met: bool, place: usize, start: usize, len: usize, rest: &[u8]) -> Value
     ensures { λ r. ⌜ valueOutcome r ≡ receiveValue met place start (take len (now (rest .entry))) ⌝ }
 {
-    if met {
-        if !may_repeat(place) {
-            return Value::Wrong(Fault::SecondCopy);
-        }
+    if and(met, !may_repeat(place)) {
+        return Value::Wrong(Fault::SecondCopy);
     }
     check_value(place, start, len, rest)
 }

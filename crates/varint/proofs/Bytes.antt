@@ -1,6 +1,6 @@
 -- Laws of the tag, and of the forms at every width. Assumes nothing.
 use Prim.Native.Nat.{ℕ, zero, suc, _+_, _-_, _*_, _/_, _%_, _^_, _≤_, _<_}
-use mathlib.Core.Path.{_≡_, refl, ap, sym, _∙_}
+use mathlib.Core.Path.{_≡_, refl, ap, ap₂, sym, _∙_}
 use mathlib.Core.List.{List, [], _∷_}
 use native.Mathlib.Nat.{mod-eq-of-lt, div-lt-iff-lt-mul}
 use native.Mathlib.Omega.{arith}
@@ -12,8 +12,9 @@ use borrow.Author.Tests.{ltb-true, ltb-false, lt-ltb, le-ltb, le-leb, lt-leb}
 use Rattle.refusal.specs.Outcome.{accepted, refused, pick, front}
 use Rattle.refusal.proofs.Laws.{pick-cases}
 use Rattle.varint.specs.Number.{tagOf, form, numberBytes, readNumber}
-use Rattle.words.specs.Words.{valueFrom}
-use Rattle.words.proofs.Big.{pow-pos, length-bytesOf, gathered, value-gathered}
+use Rattle.words.specs.Words.{valueFrom, bytesOf, copied}
+use Rattle.words.proofs.Copied.{copied-whole}
+use Rattle.words.proofs.Big.{pow-pos, length-bytesOf, bytes-above, gathered, value-gathered}
 
 -- a byte with the tag k
 pub tagged : (k x : ℕ) → k ≤ 3 → x < 64 → bitOr (k * 64) x % 256 ≡ k * 64 + x
@@ -23,6 +24,14 @@ tagged k x hk hx = rw (or-shifted k 6 x hx) (mod-eq-of-lt (omega arith))
 pub stored : (vs out : List ℕ) → length vs ≤ length out → sets out 0 vs ≡ front vs out
 unfolding front
 stored vs out h = let e : 0 + length vs ≡ length vs = omega arith in rw e at (sets-eq vs out 0 (omega arith))
+
+-- the form of tag 3 is a word
+pub word-stored : (x : ℕ) (out m : List ℕ) → x < 2 ^ 62 → 8 ≤ length out → m ≡ copied (bytesOf 8 (bitOr (3 * 2 ^ 62) x)) out → m ≡ front (form 3 x) out
+unfolding form
+word-stored x out m h l e =
+    let s : 3 * 2 ^ 62 + x ≡ x + 256 ^ 7 * 192 = omega arith in
+    let f : bytesOf 8 (bitOr (3 * 2 ^ 62) x) ≡ form 3 x = rw (or-shifted 3 62 x h, s) (ap₂ _∷_ (omega arith) (bytes-above 7 192 x)) in
+    e ∙ copied-whole _ out l ∙ ap (λ (bs : List ℕ). front bs out) f
 
 pub tag-cases : (v : ℕ) (P : ℕ → Type 0) → (v < 2 ^ 6 → P 0) → (2 ^ 6 ≤ v → v < 2 ^ 14 → P 1) → (2 ^ 14 ≤ v → v < 2 ^ 30 → P 2)
     → (2 ^ 30 ≤ v → P 3) → P (tagOf v)
@@ -64,6 +73,13 @@ length-form k v h = let r = width-range k h in rw length-bytesOf (omega arith)
 
 pub high-lt : (n v : ℕ) → v < 64 * 256 ^ n → v / 256 ^ n < 64
 high-lt n v h = div-lt-iff-lt-mul (pow-pos n) .1 h
+
+-- the bytes of a form, stored one after another
+pub form-stored : (k v : ℕ) (out : List ℕ) → k ≤ 3 → v < 64 * 256 ^ (2 ^ k - 1) → 2 ^ k ≤ length out
+    → sets out 0 (bitOr (k * 64) (v / 256 ^ (2 ^ k - 1)) % 256 ∷ bytesOf (2 ^ k - 1) v) ≡ front (form k v) out
+unfolding form
+form-stored k v out h l r =
+    rw (tagged k (v / 256 ^ (2 ^ k - 1)) h (high-lt _ v l)) (stored (form k v) out (omega (arith, length-form k v h)))
 
 pub read-none : (s : List ℕ) → length s ≡ 0 → refused 3 ≡ readNumber s
 unfolding readNumber

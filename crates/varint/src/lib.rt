@@ -1,6 +1,6 @@
 // Variable-length integers (RFC 9000 section 16): `VarInt` of quinn's varint.rs.
 ghost use mathlib.Core.Path.{_≡_};
-ghost use Prim.Native.Nat.{_+_, _*_, _/_, _%_, _^_, _<_, _≤_};
+ghost use Prim.Native.Nat.{_/_, _^_, _<_, _≤_};
 ghost use lib.ListN.{length, getD};
 ghost use Rattle.refusal.specs.Outcome.{accepted, front};
 ghost use Rattle.words.specs.Words.{bytesOf};
@@ -11,6 +11,7 @@ use refusal::Counted;
 use refusal::Refusal;
 use words::big8;
 use words::low;
+use words::put_word;
 use words::wide;
 use words::word2;
 use words::word4;
@@ -141,11 +142,15 @@ fn wide_of(word: u64) -> Wide
     }
 }
 
-// A number of two, four or eight bytes, as `tag` of the first byte says.
+// A number of two, four or eight bytes, as `tag` of the first byte says; there is no branch on it where eight bytes are there.
 fn decode_longer(tag: u8, src: &[u8]) -> Decoded
     requires { ⌜ (0 < length (now src)) × (tag ≡ getD (now src) 0 0 / 64) × (0 < tag) ⌝ }
     ensures { λ r. ⌜ readOutcome r ≡ readNumber (now (src .entry)) ⌝ }
 {
+    if VarInt::MAX_SIZE <= src.len() {
+        let number = VarInt::decode_wide(src);
+        return Decoded::Value(number.value, number.count);
+    }
     let high = src[0] & 0x3f;
     if tag == 1 {
         if src.len() < 2 {
@@ -159,11 +164,7 @@ fn decode_longer(tag: u8, src: &[u8]) -> Decoded
         }
         return Decoded::Value(word4(src[3], src[2], src[1], high), 4);
     }
-    if src.len() < 8 {
-        return Decoded::Refused(Refusal::UnexpectedEnd);
-    }
-    let upper = word4(src[3], src[2], src[1], high);
-    Decoded::Value((upper << 32) | word4(src[7], src[6], src[5], src[4]), 8)
+    Decoded::Refused(Refusal::UnexpectedEnd)
 }
 
 // Each stores one form of `x`, for which there is room.
@@ -192,20 +193,6 @@ fn put4(x: u64, out: &mut [u8])
     out[3] = low(x);
 }
 
-fn put8(x: u64, out: &mut [u8])
-    requires { ⌜ (x < 2 ^ 62) × (7 < length (now out)) ⌝ }
-    ensures { λ r. ⌜ now (out .exit) ≡ front (form 3 x) (now (out .entry)) ⌝ }
-{
-    out[0] = low((3 << 6) | (x >> 56));
-    out[1] = low(x >> 48);
-    out[2] = low(x >> 40);
-    out[3] = low(x >> 32);
-    out[4] = low(x >> 24);
-    out[5] = low(x >> 16);
-    out[6] = low(x >> 8);
-    out[7] = low(x);
-}
-
 // Stores the shortest form, for which there is room, and gives its length.
 fn put(x: u64, out: &mut [u8]) -> usize
     requires { ⌜ (x < 2 ^ 62) × (length (numberBytes x) ≤ length (now out)) ⌝ }
@@ -223,6 +210,6 @@ fn put(x: u64, out: &mut [u8]) -> usize
         put4(x, out);
         return 4;
     }
-    put8(x, out);
+    put_word((3 << 62) | x, out);
     VarInt::MAX_SIZE
 }

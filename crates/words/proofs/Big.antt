@@ -1,5 +1,6 @@
 -- Laws of numbers made of bytes, most significant first. Assumes nothing.
 --     length-bytesOf, take-bytesOf      how many bytes they are; the first of them
+--     bytes-above                       what stands above them
 --     value-bytesOf, bytes-value        from a number to its bytes and back; from bytes to their number and back
 --     value-lt                          how large the number is
 --     value-gathered                    the number, byte by byte
@@ -8,7 +9,7 @@ use Prim.Native.Nat.{ℕ, zero, suc, _+_, _*_, _/_, _%_, _^_, _≤_, _<_}
 use mathlib.Core.Path.{_≡_, refl, ap, ap₂, sym, _∙_}
 use mathlib.Core.List.{List, [], _∷_, _++_}
 use mathlib.Core.Bool.{Bool, true, false, _&&_}
-use native.Mathlib.Nat.{pow-succ', add-mul, mul-assoc, mul-comm, add-assoc, one-le-pow, div-div-eq-div-mul}
+use native.Mathlib.Nat.{pow-succ', add-mul-div-left, add-mul, mul-assoc, mul-comm, add-assoc, one-le-pow, div-div-eq-div-mul}
 use native.Mathlib.Omega.{arith}
 use lib.ListN.{length, getD, take, drop}
 use lib.Seq.{drop-cons}
@@ -85,6 +86,13 @@ take-bytesOf (suc n) m zero v e = absurd (omega arith)
 take-bytesOf (suc n) m (suc k) v e =
     let q : m + n ≡ k = omega arith in
     ap₂ _∷_ (rw (div-div-eq-div-mul v (256 ^ m) (256 ^ n), ← pow-add 256 m n, q)) (take-bytesOf n m k v (omega arith))
+
+-- what stands above the low n bytes does not count
+pub bytes-above : (n a v : ℕ) → bytesOf n (v + 256 ^ n * a) ≡ bytesOf n v
+bytes-above zero a v = refl
+bytes-above (suc n) a v =
+    rw (pow-succ', mul-comm 256 (256 ^ n), mul-assoc (256 ^ n) 256 a)
+    (ap₂ _∷_ (rw (add-mul-div-left v (256 * a) (pow-pos n)) (omega arith)) (bytes-above n (256 * a) v))
 
 pub big-8 : (s : List ℕ) (w : ℕ) → 8 ≤ length s → Word (elements 8 0 s) w → wordOf (bytesOf 8 w) ≡ valueFrom 0 (take 8 s)
 unfolding elements

@@ -17,12 +17,12 @@ use mathlib.Core.List.{List, [], _∷_, _++_}
 use mathlib.Core.Bool.{Bool, true, false, _&&_, not}
 use native.Mathlib.Omega.{arith}
 use native.Mathlib.Numerals.{add-one}
-use lib.ListN.{length, getD, drop, replicate, drop-of-length-le, length-append}
-use lib.Seq.{drop-cons}
+use lib.ListN.{length, getD, take, drop, replicate, drop-of-length-le, length-append, length-drop}
+use lib.Seq.{drop-cons, getD-drop, take-all}
 use lib.Bits.{bitOr, bitAnd, or-add-and, and-le-l, and-le-r}
 use lib.Dec.{eqb, ltb}
 use borrow.Author.Tests.{lt-ltb, ltb-true, eq-eqb, ne-eqb, eqb-true, eqb-false}
-use native.Mathlib.Nat.{mul-comm, pow-le-pow-right, one-le-pow, pow-succ', mul-assoc, mod-eq-of-lt, add-mul-div-left, div-eq-of-lt, div-lt-iff-lt-mul, div-one, zero-div}
+use native.Mathlib.Nat.{add-zero, add-suc, mul-comm, pow-le-pow-right, one-le-pow, pow-succ', mul-assoc, mod-eq-of-lt, add-mul-div-left, div-eq-of-lt, div-lt-iff-lt-mul, div-one, zero-div}
 use lib.Pow.{pow-add, shr-shr}
 use lib.Arith.{digits-lt}
 use lib.Bits.{or-shifted}
@@ -198,6 +198,15 @@ elements-all : (n i : ℕ) (s : List ℕ) → i + n ≡ length s → elements n 
 unfolding elements
 elements-all zero i s h = sym (drop-of-length-le s {i = i} (omega arith))
 elements-all (suc n) i s h = rw (drop-cons s i 0 (omega arith)) (ap (λ t. getD s i 0 ∷ t) (elements-all n (suc i) s (omega arith)))
+
+-- the elements of a part that starts at k
+elements-part : (n i k : ℕ) (s : List ℕ) → elements n i (drop k s) ≡ elements n (k + i) s
+unfolding elements
+elements-part zero i k s = refl
+elements-part (suc n) i k s = ap₂ _∷_ (getD-drop k s i 0) (rw (add-suc k i) at (elements-part n (suc i) k s))
+
+pub word-part : (n k w : ℕ) (s : List ℕ) → Word (elements n 0 (take (length s - k) (drop k s))) w → Word (elements n k s) w
+word-part n k w s x = rw (take-all (length s - k) (drop k s) (omega (arith, length-drop k s)), elements-part n 0 k s, add-zero k) at x
 
 -- the test of three words is that of their bytes
 pub zero-words : (n u v w : ℕ) (r : Bool) (a b d : List ℕ) → length a ≡ 8 → length b ≡ 8 → Word a u → Word b v → Word d w

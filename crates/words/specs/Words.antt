@@ -4,7 +4,8 @@ use mathlib.Core.Path.{_≡_}
 use mathlib.Core.Bool.{Bool, true, false, _&&_}
 use mathlib.Core.List.{List, [], _∷_}
 use lib.ListN.{length, getD}
-use lib.Dec.{eqb, ltb}
+use lib.Dec.{eqb, ltb, leb}
+use Rattle.refusal.specs.Outcome.{pick, front}
 
 -- every element passes
 abbrev pub every : (ℕ → Bool) → List ℕ → Bool
@@ -58,3 +59,7 @@ pub record WordsOf20 (s : List ℕ) (u v w : ℕ) : Type 0 where
   pub first : Word (elements 8 0 s) u
   pub second : Word (elements 8 8 s) v
   pub third : Word (elements 4 16 s) w
+
+-- a buffer with bytes at its front, if there is room for them
+unfoldable pub copied : List ℕ → List ℕ → List ℕ
+copied bs out = pick (leb (length bs) (length out)) (front bs out) out

@@ -6,7 +6,7 @@ ghost use Prim.Native.Nat.{_+_, _*_, _/_, _%_, _^_, _≤_, _<_, min};
 ghost use lib.Dec.{eqb, leb};
 ghost use lib.ListN.{length, take, drop};
 ghost use Rattle.refusal.specs.Outcome.{pick};
-ghost use Rattle.words.specs.Words.{zeros, sameBytes, Word, WordsOf20, elements, valueFrom, bytesOf, wordOf};
+ghost use Rattle.words.specs.Words.{zeros, sameBytes, Word, WordsOf20, elements, valueFrom, bytesOf, wordOf, copied};
 
 pub fn and(a: bool, b: bool) -> bool
     ensures { λ r. ⌜ r ≡ (a && b) ⌝ }
@@ -59,44 +59,19 @@ pub fn word4(a: u8, b: u8, c: u8, d: u8) -> u64
     (word2(c, d) << 16) | word2(a, b)
 }
 
-pub fn word8(a: u8, b: u8, c: u8, d: u8, e: u8, f: u8, g: u8, h: u8) -> u64
-    ensures { λ r. ⌜ Word (a ∷ b ∷ c ∷ d ∷ e ∷ f ∷ g ∷ h ∷ []) r ⌝ }
+// The first bytes of a slice as a number, low byte first. Functions of their own: so the compiler makes one load of them.
+fn front4(v: &[u8]) -> u64
+    requires { ⌜ 4 ≤ length (now v) ⌝ }
+    ensures { λ r. ⌜ Word (elements 4 0 (now (v .entry))) r ⌝ }
 {
-    (word4(e, f, g, h) << 32) | word4(a, b, c, d)
+    word4(v[0], v[1], v[2], v[3])
 }
 
-// The first eight bytes as a number, low byte first. A function of its own: so the compiler makes one load of them.
 fn front8(v: &[u8]) -> u64
     requires { ⌜ 8 ≤ length (now v) ⌝ }
     ensures { λ r. ⌜ Word (elements 8 0 (now (v .entry))) r ⌝ }
 {
-    word8(v[0], v[1], v[2], v[3], v[4], v[5], v[6], v[7])
-}
-
-// The number of the same bytes in the other order.
-pub fn swapped(w: u64) -> u64
-    ensures { λ r. ⌜ r ≡ wordOf (bytesOf 8 w) ⌝ }
-{
-    word8(
-        low(w >> 56),
-        low(w >> 48),
-        low(w >> 40),
-        low(w >> 32),
-        low(w >> 24),
-        low(w >> 16),
-        low(w >> 8),
-        low(w),
-    )
-}
-
-// The first eight bytes as a number, high byte first; 0 if there are fewer.
-pub fn big8(v: &[u8]) -> u64
-    ensures { λ r. ⌜ r ≡ pick (leb 8 (length (now (v .entry)))) (valueFrom 0 (take 8 (now (v .entry)))) 0 ⌝ }
-{
-    if v.len() < 8 {
-        return 0;
-    }
-    swapped(front8(v))
+    (front4(&v[4..]) << 32) | front4(v)
 }
 
 // The eight bytes of a number, high byte first.
@@ -115,21 +90,58 @@ pub fn bytes8(x: u64) -> [u8; 8]
     ]
 }
 
+// Copies bytes to the front; nothing if there is no room.
+pub fn copy(bytes: &[u8], out: &mut [u8])
+    ensures { λ r. ⌜ now (out .exit) ≡ copied (now (bytes .entry)) (now (out .entry)) ⌝ }
+{
+    if out.len() < bytes.len() {
+        return;
+    }
+    let mut i: usize = 0;
+    while i < bytes.len() {
+        out[i] = bytes[i];
+        i += 1;
+    }
+}
+
+// Stores the eight bytes of a number at the front, high byte first; nothing if there is no room. The compiler makes one store of them.
+pub fn put_word(x: u64, out: &mut [u8])
+    ensures { λ r. ⌜ now (out .exit) ≡ copied (bytesOf 8 x) (now (out .entry)) ⌝ }
+{
+    let bytes = bytes8(x);
+    copy(&bytes, out);
+}
+
+// The number of the same bytes in the other order. A function of its own: so the compiler makes one instruction of it.
+fn swapped(w: u64) -> u64
+    ensures { λ r. ⌜ r ≡ wordOf (bytesOf 8 w) ⌝ }
+{
+    let bytes = bytes8(w);
+    front8(&bytes)
+}
+
+// The first eight bytes as a number, high byte first; 0 if there are fewer.
+pub fn big8(v: &[u8]) -> u64
+    ensures { λ r. ⌜ r ≡ pick (leb 8 (length (now (v .entry)))) (valueFrom 0 (take 8 (now (v .entry)))) 0 ⌝ }
+{
+    if v.len() < 8 {
+        return 0;
+    }
+    swapped(front8(v))
+}
+
 // Whether 24 bytes, eight to a word, are zero from byte `n` on.
 pub fn zero_from(u: u64, v: u64, w: u64, n: usize) -> bool
     ensures { λ r. ⌜ r ≡ eqb ((u + 2 ^ 64 * (v + 2 ^ 64 * w)) / 2 ^ (8 * n)) 0 ⌝ }
 {
     if n < 8 {
-        let k = (8 * n) as u32;
-        return (u >> k) | (v | w) == 0;
+        return (u >> (8 * n)) | (v | w) == 0;
     }
     if n < 16 {
-        let k = (8 * (n - 8)) as u32;
-        return (v >> k) | w == 0;
+        return (v >> (8 * (n - 8))) | w == 0;
     }
     if n < 24 {
-        let k = (8 * (n - 16)) as u32;
-        return w >> k == 0;
+        return w >> (8 * (n - 16)) == 0;
     }
     true
 }
@@ -144,9 +156,10 @@ struct ThreeWords {
 fn words20(b: &[u8; 20]) -> ThreeWords
     ensures { λ r. ⌜ WordsOf20 (now (b .entry)) (r .u) (r .v) (r .w) ⌝ }
 {
-    let u = word8(b[0], b[1], b[2], b[3], b[4], b[5], b[6], b[7]);
-    let v = word8(b[8], b[9], b[10], b[11], b[12], b[13], b[14], b[15]);
-    let w = word4(b[16], b[17], b[18], b[19]);
+    let s = &b[..];
+    let u = front8(s);
+    let v = front8(&s[8..]);
+    let w = front4(&s[16..]);
     ThreeWords { u, v, w }
 }
 
@@ -170,15 +183,16 @@ pub fn zero20_from(b: &[u8; 20], n: usize) -> bool
 pub fn zero16_from(b: &[u8; 16], n: usize) -> bool
     ensures { λ r. ⌜ r ≡ zeros (drop n (elements 16 0 (now (b .entry)))) ⌝ }
 {
-    let u = word8(b[0], b[1], b[2], b[3], b[4], b[5], b[6], b[7]);
-    let v = word8(b[8], b[9], b[10], b[11], b[12], b[13], b[14], b[15]);
+    let s = &b[..];
+    let u = front8(s);
+    let v = front8(&s[8..]);
     zero_from(u, v, 0, n)
 }
 
 pub fn zero4(b: &[u8; 4]) -> bool
     ensures { λ r. ⌜ r ≡ zeros (elements 4 0 (now (b .entry))) ⌝ }
 {
-    word4(b[0], b[1], b[2], b[3]) == 0
+    front4(b) == 0
 }
 
 // Whether all bytes are zero.

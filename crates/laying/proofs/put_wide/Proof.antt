@@ -1,8 +1,9 @@
 -- `laying::put_wide` meets its contract. Assumes nothing.
 use native.Mathlib.Omega.{arith}
+use Rattle.words.proofs.Copied.{copied-whole}
 use Rattle.varint.proofs.Bytes.{tag-le, tag-room}
 use Rattle.laying.proofs.Wide.{wide-stored}
-use mathlib.Core.Path.{refl}
+use mathlib.Core.Path.{refl, _∙_}
 use borrow.Author.Needs.{needs}
 use Rattle.laying.proofs.put_wide.Statement.{statement}
 use Rattle.laying.proofs.put_wide.Tie as tie
@@ -14,7 +15,10 @@ shl-result : tie.Need-shl-result
 shl-result c = omega (arith, c .before .before .before .before .before .tag-of .ensures, tag-le (c .before .before .before .before .before .before .before .args .x))
 
 returns : tie.Need-returns
-returns c = wide-stored (c .before .before .before .before .before .before .before .args .x) _ _ _ (c .before .before .before .before .before .before .before .args .out .now) _ (c .before .before .before .before .before .tag-of .ensures) refl (c .before .before .before .before .wide-form .ensures) (c .before .before .put-word .ensures)
+returns c =
+    let a = c .before .before .before .before .before .before .before in
+    let o = a .args .out .now in
+    wide-stored (a .args .x) _ _ _ o _ (c .before .before .before .before .before .tag-of .ensures) refl (c .before .before .before .before .wide-form .ensures) (c .before .before .put-word .ensures ∙ copied-whole _ o (a .pre .1))
 
 pub put-wide-spec : {M : Type 1} → statement M
 put-wide-spec =

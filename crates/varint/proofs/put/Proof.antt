@@ -1,5 +1,5 @@
 -- `varint::put` meets its contract: the tests that led to each store pick the tag. Assumes nothing.
-use Rattle.varint.proofs.Bytes.{tag-0, tag-1, tag-2, tag-3, sized, whole}
+use Rattle.varint.proofs.Bytes.{tag-0, tag-1, tag-2, tag-3, sized, whole, word-stored}
 use borrow.Author.Needs.{needs}
 use Rattle.varint.proofs.put.Statement.{statement}
 use Rattle.varint.proofs.put.Tie as tie
@@ -22,11 +22,12 @@ put4-requires c κs = (c .before .if3 .taken, sized _ 2 (tag-2 _ (c .before .bef
 returns-3 : tie.Need-returns-3
 returns-3 c = whole _ 2 (tag-2 _ (c .before .before .before .before .before .if2 .left) (c .before .before .before .before .if3 .taken)) _ _ (c .before .before .put4 .ensures)
 
-put8-requires : tie.Need-put8-requires
-put8-requires c κs = (c .before .before .before .before .before .pre .0, sized _ 3 (tag-3 _ (c .before .if3 .left)) (c .before .before .before .before .before .args .out .now) (c .before .before .before .before .before .pre .1))
-
 returns-4 : tie.Need-returns-4
-returns-4 c = whole _ 3 (tag-3 _ (c .before .before .before .before .if3 .left)) _ _ (c .before .before .put8 .ensures)
+returns-4 c =
+    let a = c .before .before .before .before .before .before .before .before in
+    let o = a .args .out .now in
+    let t = tag-3 _ (c .before .before .before .before .if3 .left) in
+    whole _ 3 t _ _ (word-stored _ o _ (a .pre .0) (sized _ 3 t o (a .pre .1)) (c .before .before .put-word .ensures))
 
 pub put-spec : {M : Type 1} → statement M
 put-spec =
@@ -41,6 +42,6 @@ put-spec =
     put4-requires
     (λ c. search needs)
     returns-3
-    put8-requires
+    (λ c κs. search needs)
     (λ c. search needs)
     returns-4)

@@ -18,4 +18,4 @@ returns c =
     rw (c .low .ensures, mod-eq-of-lt h, e) (stored (c .before .before .args .x ∷ []) (c .before .before .args .out .now) (omega arith))
 
 pub put1-spec : {M : Type 1} → statement M
-put1-spec = tie.close (tie.spec (λ c κs. search needs) (λ c. search needs) (λ c. search needs) returns)
+put1-spec = tie.close (tie.spec (λ c κs. tt) (λ c. search needs) (λ c. search needs) returns)

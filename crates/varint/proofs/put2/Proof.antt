@@ -1,26 +1,19 @@
 -- `varint::put2` meets its contract: its stores are the form of tag 1. Assumes nothing.
 use native.Mathlib.Nat.{div-one}
+use lib.Dec.{lit<}
 use lib.ListN.{length-set}
-use Rattle.varint.specs.Number.{form}
-use Rattle.varint.proofs.Bytes.{stored, tagged}
-use Prim.Native.Nat.{_/_, _^_, _<_}
+use Rattle.varint.proofs.Bytes.{form-stored}
 use native.Mathlib.Omega.{arith}
 use borrow.Author.Needs.{needs}
 use Rattle.varint.proofs.put2.Statement.{statement}
 use Rattle.varint.proofs.put2.Tie as tie
 
-slice-write-out-2 : tie.Need-slice-write-out-2
-slice-write-out-2 c = simp length-set (omega arith)
-
 returns : tie.Need-returns
-unfolding form
 returns c =
-    let x = c .before .before .before .args .x in
-    let h : x / 2 ^ 8 < 64 = omega arith in
-    rw (c .before .low .ensures, c .low2 .ensures, tagged 1 (x / 2 ^ 8) (omega arith) h, div-one x)
-    (rw div-one at (stored (form 1 x) (c .before .before .before .args .out .now) (omega arith)))
+    let a = c .before .before .before in
+    rw (c .before .low .ensures, c .low2 .ensures) (rw div-one at (form-stored 1 (a .args .x) (a .args .out .now) (lit< tt) (a .pre .0) (a .pre .1)))
 
 pub put2-spec : {M : Type 1} → statement M
 put2-spec =
     tie.close
-    (tie.spec (λ c κs. search needs) (λ c. search needs) (λ c κs. search needs) slice-write-out-2 (λ c. search needs) returns)
+    (tie.spec (λ c κs. tt) (λ c. search needs) (λ c κs. search needs) (λ c. simp length-set (omega arith)) (λ c. search needs) returns)

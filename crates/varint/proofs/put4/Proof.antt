@@ -1,42 +1,30 @@
 -- `varint::put4` meets its contract: its stores are the form of tag 2. Assumes nothing.
 use native.Mathlib.Nat.{div-one}
+use lib.Dec.{lit<}
 use lib.ListN.{length-set}
-use Rattle.varint.specs.Number.{form}
-use Rattle.varint.proofs.Bytes.{stored, tagged}
-use Prim.Native.Nat.{_/_, _^_, _<_}
+use Rattle.varint.proofs.Bytes.{form-stored}
 use native.Mathlib.Omega.{arith}
 use borrow.Author.Needs.{needs}
 use Rattle.varint.proofs.put4.Statement.{statement}
 use Rattle.varint.proofs.put4.Tie as tie
 
-slice-write-out-2 : tie.Need-slice-write-out-2
-slice-write-out-2 c = simp length-set (omega arith)
-
-slice-write-out-3 : tie.Need-slice-write-out-3
-slice-write-out-3 c = simp length-set (omega arith)
-
-slice-write-out-4 : tie.Need-slice-write-out-4
-slice-write-out-4 c = simp length-set (omega arith)
-
 returns : tie.Need-returns
-unfolding form
 returns c =
-    let x = c .before .before .before .before .before .args .x in
-    let h : x / 2 ^ 24 < 64 = omega arith in
-    rw (c .before .before .before .low .ensures, c .before .before .low2 .ensures, c .before .low3 .ensures, c .low4 .ensures, tagged 2 (x / 2 ^ 24) (omega arith) h, div-one x)
-    (rw div-one at (stored (form 2 x) (c .before .before .before .before .before .args .out .now) (omega arith)))
+    let a = c .before .before .before .before .before in
+    rw (c .before .before .before .low .ensures, c .before .before .low2 .ensures, c .before .low3 .ensures, c .low4 .ensures)
+    (rw div-one at (form-stored 2 (a .args .x) (a .args .out .now) (lit< tt) (a .pre .0) (a .pre .1)))
 
 pub put4-spec : {M : Type 1} → statement M
 put4-spec =
     tie.close
     (tie.spec
-    (λ c κs. search needs)
+    (λ c κs. tt)
     (λ c. search needs)
-    (λ c κs. search needs)
-    slice-write-out-2
-    (λ c κs. search needs)
-    slice-write-out-3
-    (λ c κs. search needs)
-    slice-write-out-4
+    (λ c κs. tt)
+    (λ c. simp length-set (omega arith))
+    (λ c κs. tt)
+    (λ c. simp length-set (omega arith))
+    (λ c κs. tt)
+    (λ c. simp length-set (omega arith))
     (λ c. search needs)
     returns)

@@ -35,16 +35,10 @@ zero-from-spec =
     (tie.spec
     (λ c. omega arith)
     (λ c. omega arith)
-    (λ c. omega arith)
-    (λ c. omega arith)
     returns
     (λ c. omega arith)
     (λ c. omega arith)
-    (λ c. omega arith)
-    (λ c. omega arith)
     returns-2
-    (λ c. omega arith)
-    (λ c. omega arith)
     (λ c. omega arith)
     (λ c. omega arith)
     returns-3
