@@ -4,7 +4,7 @@
 --     headed         identifier, length and value, stored one over the end of the other
 --     lay-none, lay-whole, lay-nil    without room, with it, and of no bytes
 --     lay-clear      on a buffer of zeros it is storing exactly
-use Prim.Native.Nat.{ℕ, zero, suc, _+_, _-_, _*_, _/_, _%_, _^_, _≤_, _<_}
+use Prim.Native.Nat.{ℕ, zero, suc, _+_, _-_, _*_, _%_, _^_, _≤_, _<_}
 use mathlib.Core.List.{List, [], _∷_, _++_, append-assoc}
 use mathlib.Core.Path.{_≡_, refl, ap, ap₂, sym, _∙_}
 use mathlib.Core.Bool.{Bool, true, false, _&&_}
@@ -18,7 +18,7 @@ use Rattle.refusal.specs.Outcome.{pick, front}
 use Rattle.varint.specs.Number.{bound, form, tagOf, numberBytes}
 use Rattle.varint.proofs.Bytes.{four, tag-le, length-form}
 use Rattle.catalogue.specs.Catalogue.{parameter}
-use Rattle.words.specs.Words.{zeros, wordOf, bytesOf}
+use Rattle.words.specs.Words.{zeros, bytesOf}
 use Rattle.words.proofs.Laws.{joined, zeros-are, zeros-replicate, zeros-append}
 use Rattle.wire.specs.Wire.{put, dueValue, dueNumber}
 use Rattle.laying.specs.Laying.{lay, numberRest, laidNumber, laidField}
@@ -62,20 +62,6 @@ wide-bytes k x h = four k (λ k. x < 64 * 256 ^ (2 ^ k - 1) → bytesOf 8 (shift
 
     three : x < 64 * 256 ^ 7 → bytesOf 8 (shifted 3 x) ≡ form 3 x ++ replicate 0 0
     three l = rw (joined 62 3 x (omega arith) (omega arith)) (eight (omega arith) (omega arith) (omega arith) (omega arith) (omega arith) (omega arith) (omega arith) (omega arith))
-
--- the bytes of a number, low byte first
-abbrev pub lows : ℕ → List ℕ
-lows w =
-    w % 256 ∷ w / 2 ^ 8 % 256 ∷ w / 2 ^ 16 % 256 ∷ w / 2 ^ 24 % 256 ∷ w / 2 ^ 32 % 256 ∷ w / 2 ^ 40 % 256 ∷ w / 2 ^ 48 % 256 ∷ w / 2 ^ 56 % 256 ∷ []
-
-lows-word : (a b d e f g h i : ℕ) → a < 256 → b < 256 → d < 256 → e < 256 → f < 256 → g < 256 → h < 256 → i < 256
-    → lows (wordOf (a ∷ b ∷ d ∷ e ∷ f ∷ g ∷ h ∷ i ∷ [])) ≡ a ∷ b ∷ d ∷ e ∷ f ∷ g ∷ h ∷ i ∷ []
-lows-word a b d e f g h i ha hb hd he hf hg hh hi = eight (omega arith) (omega arith) (omega arith) (omega arith) (omega arith) (omega arith) (omega arith) (omega arith)
-
-pub lows-swapped : (y w : ℕ) → w ≡ wordOf (bytesOf 8 y) → lows w ≡ bytesOf 8 y
-lows-swapped y w e =
-    ap lows e
-    ∙ lows-word _ _ _ _ _ _ _ _ (omega arith) (omega arith) (omega arith) (omega arith) (omega arith) (omega arith) (omega arith) (omega arith)
 
 -- LAYING
 module _ (room : ℕ) (bs more out : List ℕ) where

@@ -34,7 +34,8 @@ use Rattle.index.proofs.Sound.{sound}
 use Rattle.reader.specs.Kept.{valueAt, recordFrom}
 use Rattle.reader.proofs.Indexed.{no-number, flag-no, address-no, kept-good, read-recorded, read-faulty}
 use Rattle.reader.proofs.Laws.{accepted-legal}
-use Rattle.wire.specs.Wire.{dueValue, dueNumber, numberAt}
+use Rattle.wire.specs.Wire.{put, dueValue, dueNumber, numberAt}
+use Rattle.wire.proofs.Put.{put-nil}
 use Rattle.wire.specs.Stored.{joined, each}
 use Rattle.wire.proofs.Stored.{joined-append}
 use Rattle.writer.specs.Writing.{extension}
@@ -73,22 +74,35 @@ unfolding dueNumber dueValue
 number-piece true id x = refl
 number-piece false id x = refl
 
--- of which kind a place is
-pub number-due : (id : ℕ) (s : List ℕ) (m : ℕ) (kept lens : List ℕ) (p : ℕ) → marked 0x1047ff p ≡ true → dueNumber (marked m p) id (getD kept p 0) ≡ pieceFor id s m kept lens p
-unfolding pieceFor pieceOf
-number-due id s m kept lens p h = rw (number-at p h) refl
+-- nothing, a number or a value, as the place was met and is of which kind
+module _ (id : ℕ) (s : List ℕ) (m : ℕ) (kept lens : List ℕ) (p : ℕ) where
+  pub none-due : (out : List ℕ) → marked m p ≡ false → (0, out) ≡ put (pieceFor id s m kept lens p) out
+  unfolding pieceFor pieceOf
+  none-due out h = rw h (go (kindAt p))
+    where
+      go : (k : Kind) → (0, out) ≡ put (pieceOf k false id (getD kept p 0) (spanAt s kept lens p)) out
+      go number = unfold dueNumber dueValue in put-nil out
+      go flag = unfold dueValue in put-nil out
+      go cid = unfold dueValue in put-nil out
+      go token = unfold dueValue in put-nil out
+      go address = unfold dueValue in put-nil out
+      go reserved = unfold dueValue in put-nil out
 
-pub value-due : (id : ℕ) (s : List ℕ) (m : ℕ) (kept lens : List ℕ) (p : ℕ) → marked 0x1047ff p ≡ false → dueValue (marked m p) id (spanAt s kept lens p) ≡ pieceFor id s m kept lens p
-unfolding pieceFor pieceOf
-value-due id s m kept lens p h = go (kindAt p) (not-number-at p h)
-  where
-    go : (k : Kind) → (k ≡ number → ⊥) → dueValue (marked m p) id (spanAt s kept lens p) ≡ pieceOf k (marked m p) id (getD kept p 0) (spanAt s kept lens p)
-    go number n = absurd (n refl)
-    go flag n = refl
-    go cid n = refl
-    go token n = refl
-    go address n = refl
-    go reserved n = refl
+  pub number-due : marked m p ≡ true → marked 0x1047ff p ≡ true → dueNumber true id (getD kept p 0) ≡ pieceFor id s m kept lens p
+  unfolding pieceFor pieceOf
+  number-due d h = rw (d, number-at p h) refl
+
+  pub value-due : marked m p ≡ true → marked 0x1047ff p ≡ false → dueValue true id (spanAt s kept lens p) ≡ pieceFor id s m kept lens p
+  unfolding pieceFor pieceOf
+  value-due d h = rw d (go (kindAt p) (not-number-at p h))
+    where
+      go : (k : Kind) → (k ≡ number → ⊥) → dueValue true id (spanAt s kept lens p) ≡ pieceOf k true id (getD kept p 0) (spanAt s kept lens p)
+      go number n = absurd (n refl)
+      go flag n = refl
+      go cid n = refl
+      go token n = refl
+      go address n = refl
+      go reserved n = refl
 
 module _ (side : Side) (s : List ℕ) (m : ℕ) (kept lens : List ℕ) (hb : Bytes s) (e : indexed side s ≡ accepted (m, kept, lens)) where
   abbrev f : Found

@@ -44,13 +44,15 @@ fn put_at(
     requires { ⌜ (place < places) × Kept (now src) (now kept) (now lens) ⌝ }
     ensures { λ r. ⌜ (r, now (out .exit)) ≡ put (pieceFor id (now (src .entry)) marks (now (kept .entry)) (now (lens .entry)) place) (now (out .entry)) ⌝ }
 {
-    let due = is_marked(marks, place);
+    if !is_marked(marks, place) {
+        return 0;
+    }
     if is_marked(NUMBER_PLACES, place) {
-        return put_number(due, id, kept[place], out);
+        return put_number(true, id, kept[place], out);
     }
     let start = kept[place] as usize;
     let end = start + (lens[place] as usize);
-    put_value(due, id, &src[start..end], out)
+    put_value(true, id, &src[start..end], out)
 }
 
 // The numbers of places 0 to 10, but for those that are the default.

@@ -5,7 +5,7 @@ use mathlib.Core.List.{List, []}
 use mathlib.Core.Path.{_≡_, refl}
 use mathlib.Core.Bool.{Bool, true}
 use native.Mathlib.Omega.{arith}
-use lib.ListN.{length, take, drop, replicate, drop-of-length-le}
+use lib.ListN.{length, take, drop, drop-of-length-le}
 use borrow.Author.Tests.{eqb-true, leb-true, le-leb, lt-ltb}
 use Rattle.words.specs.Words.{zeros}
 use Rattle.refusal.proofs.Laws.{all-at}
@@ -40,7 +40,3 @@ pub token-field : (v : List ℕ) → length v ≡ 16 → Field 16 v
 token-field v l =
     let d : drop 16 v ≡ [] = drop-of-length-le v {i = 16} (omega arith) in
     record { long = omega arith; short = omega arith; within = omega arith; clear = rw d refl }
-
--- a flag is a field of zeros, and none of it the value
-pub flag-field : Field 0 (replicate 8 0)
-flag-field = record { long = omega arith; short = omega arith; within = omega arith; clear = refl }
