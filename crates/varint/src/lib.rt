@@ -142,15 +142,11 @@ fn wide_of(word: u64) -> Wide
     }
 }
 
-// A number of two, four or eight bytes, as `tag` of the first byte says; there is no branch on it where eight bytes are there.
+// A number of two, four or eight bytes, as `tag` of the first byte says.
 fn decode_longer(tag: u8, src: &[u8]) -> Decoded
     requires { ⌜ (0 < length (now src)) × (tag ≡ getD (now src) 0 0 / 64) × (0 < tag) ⌝ }
     ensures { λ r. ⌜ readOutcome r ≡ readNumber (now (src .entry)) ⌝ }
 {
-    if VarInt::MAX_SIZE <= src.len() {
-        let number = VarInt::decode_wide(src);
-        return Decoded::Value(number.value, number.count);
-    }
     let high = src[0] & 0x3f;
     if tag == 1 {
         if src.len() < 2 {
@@ -164,7 +160,11 @@ fn decode_longer(tag: u8, src: &[u8]) -> Decoded
         }
         return Decoded::Value(word4(src[3], src[2], src[1], high), 4);
     }
-    Decoded::Refused(Refusal::UnexpectedEnd)
+    if src.len() < 8 {
+        return Decoded::Refused(Refusal::UnexpectedEnd);
+    }
+    let upper = word4(src[3], src[2], src[1], high);
+    Decoded::Value((upper << 32) | word4(src[7], src[6], src[5], src[4]), 8)
 }
 
 // Each stores one form of `x`, for which there is room.
