@@ -1,6 +1,6 @@
 //! A case is one call, all in bytes and numbers; an answer is what came back. Both programs take the same cases.
 
-/// The operations. Those from `Check` on have no counterpart in the Rust: all but the last are held to what its operations give together.
+/// The operations. Those from `Check` on have no counterpart in the Rust: all but `CheckOrder` are held to what its operations give.
 #[derive(Clone, Copy, PartialEq, Eq, Debug)]
 #[repr(u8)]
 pub enum Op {
@@ -23,10 +23,12 @@ pub enum Op {
     TidyTwice,
     /// takes an order; the one operation that is never put to quinn
     CheckOrder,
+    /// how many bytes the Rust writes, in the record's order; in catalogue order if that is no permutation, which the length does not look at
+    Length,
 }
 
 impl Op {
-    pub const ALL: [(Op, &'static str); 15] = [
+    pub const ALL: [(Op, &'static str); 16] = [
         (Op::NumberSize, "number_size"),
         (Op::NumberRead, "number_read"),
         (Op::NumberWrite, "number_write"),
@@ -42,6 +44,7 @@ impl Op {
         (Op::Tidy, "tidy"),
         (Op::TidyTwice, "tidy twice"),
         (Op::CheckOrder, "check_order"),
+        (Op::Length, "length"),
     ];
 }
 
@@ -54,7 +57,7 @@ impl Op {
 /// | cid_write | | an ID's image | | | |
 /// | read, tidy | side | the extension | | | |
 /// | check | side | a record's image | | | |
-/// | write, issue_limit | | a record's image | | | |
+/// | write, issue_limit, length | | a record's image | | | |
 /// | resumption | | a record's image | the cached one's | | |
 /// | new | the draw | twelve settings, eight bytes each | the ID's image | payload | order |
 /// | check_order | | the order | | | |

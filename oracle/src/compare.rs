@@ -62,7 +62,7 @@ fn plant(c: &Case, nth: u64, got: &mut library::Called) {
         Op::Read if got.output()[64..72] == 20u64.to_be_bytes() => *got = library::refused(2),
         Op::Read => {}
         _ if !now => {}
-        Op::NumberSize | Op::Issue => got.number ^= 1,
+        Op::NumberSize | Op::Issue | Op::Length => got.number ^= 1,
         Op::Resume | Op::Check | Op::CheckOrder => got.code ^= 1,
         Op::Write => got.flip(-1),
         Op::Tidy => got.flip(c.room as isize),

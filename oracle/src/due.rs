@@ -12,11 +12,15 @@ pub fn by_quinn(c: &Case) -> bool {
     c.declined == 0 && c.op != Op::CheckOrder
 }
 
-/// Document 01: an order is a permutation of 0 to 20, else 6.
-fn check_order(order: &[u8]) -> u8 {
+/// Document 01: an order is a permutation of 0 to 20.
+pub fn is_permutation(order: &[u8]) -> bool {
     let mut places = order.to_vec();
     places.sort();
-    if places == CATALOGUE_ORDER { 0 } else { 6 }
+    places == CATALOGUE_ORDER
+}
+
+fn check_order(order: &[u8]) -> u8 {
+    if is_permutation(order) { 0 } else { 6 }
 }
 
 fn by_document(c: &Case) -> Answer {

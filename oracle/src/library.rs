@@ -13,6 +13,7 @@ unsafe extern "C" {
     fn yuthpram_read(side: u8, src: *const u8, src_len: usize, record: *mut u8, record_len: usize) -> u8;
     fn yuthpram_check_order(order: *const u8, order_len: usize) -> u8;
     fn yuthpram_write(record: *const u8, record_len: usize, out: *mut u8, out_len: usize, count: *mut usize) -> u8;
+    fn yuthpram_length(record: *const u8, record_len: usize, count: *mut usize) -> u8;
     fn yuthpram_tidy(side: u8, src: *const u8, src_len: usize, out: *mut u8, out_len: usize, count: *mut usize) -> u8;
     fn yuthpram_new(
         settings: *const u64,
@@ -163,6 +164,7 @@ pub fn call(c: &Case) -> Called {
             Op::Check => yuthpram_check(x, n, side),
             Op::Tidy | Op::TidyTwice => yuthpram_tidy(side, x, n, out, room, count),
             Op::CheckOrder => yuthpram_check_order(x, n),
+            Op::Length => yuthpram_length(x, n, count),
         }
     };
     // The value of number_read goes where bytes go.

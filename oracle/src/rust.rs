@@ -6,7 +6,7 @@ use crate::{
     Side, VarInt,
     answer::{Answer, Case, MOST, Op},
     coding::Codec,
-    image,
+    due, image,
     shared::ConnectionId,
     transport_parameters::{Error, TransportParameters},
 };
@@ -107,5 +107,10 @@ pub fn answer(c: &Case) -> Answer {
             Err(e) => refusal(e),
         },
         Op::CheckOrder => unreachable!("quinn has no such test"),
+        Op::Length => {
+            let mut p = image::to_record(c.x);
+            p.write_order = p.write_order.filter(|order| due::is_permutation(order));
+            Answer::number(stored(|out| p.write(out)).number)
+        }
     }
 }

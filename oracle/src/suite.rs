@@ -360,11 +360,12 @@ impl Suite<'_> {
 
     // Records
 
-    /// A record written, checked for both sides, asked for its issue limit.
+    /// A record written, measured, checked for both sides, asked for its issue limit.
     fn record(&mut self, p: &TransportParameters) {
         let x = image::of_record(p);
         let room = if self.d.one_in(4) { self.d.below(316) } else { MOST };
         self.case(Op::Write, 0, &x, room);
+        self.case(Op::Length, 0, &x, 0);
         self.case(Op::Check, 0, &x, 0);
         self.case(Op::Check, 1, &x, 0);
         self.case(Op::Issue, 0, &x, 0);
@@ -422,6 +423,7 @@ impl Suite<'_> {
         for order in orders {
             let p = TransportParameters { write_order: Some(order), ..p };
             self.case(Op::Write, 0, &image::of_record(&p), MOST);
+            self.case(Op::Length, 0, &image::of_record(&p), 0);
         }
     }
 
@@ -570,6 +572,7 @@ impl Suite<'_> {
             let long = [&good[..], &[0]].concat();
             for x in [&bad[..], cut, &long] {
                 (self.sink)(&Case::new(Op::Write, 0, x, room).declined(7));
+                (self.sink)(&Case::new(Op::Length, 0, x, 0).declined(7));
                 let side = self.side();
                 (self.sink)(&Case::new(Op::Check, side, x, 0).declined(7));
                 (self.sink)(&Case { y: &good, ..Case::new(Op::Resume, 0, x, 0).declined(7) });
@@ -588,6 +591,8 @@ impl Suite<'_> {
                 // an order that is there hides what spoilt an absent one
                 if code == 6 || i % inputs::SPOILS != inputs::SPOILS - 1 {
                     (self.sink)(&Case::new(Op::Write, 0, &x, room).declined(code));
+                    // the length does not look at the order
+                    (self.sink)(&Case::new(Op::Length, 0, &x, 0).declined(if code == 6 { 0 } else { code }));
                 }
             }
         }

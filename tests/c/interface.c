@@ -251,6 +251,53 @@ static void writing(void)
     REFUSES(7, yuthpram_write(image, RECORD, out, 0, &count));
 }
 
+static void lengths(void)
+{
+    // what each field is worth alone: the place of its flag, the place and value of its length
+    static const struct { size_t flag, at, len, due; } alone[] = {
+        { 88, 0, 0, 2 },     { 89, 0, 0, 3 },     { 90, 0, 0, 3 },    { 99, 0, 0, 10 },    { 108, 109, 2, 4 },
+        { 130, 131, 2, 4 },  { 152, 153, 2, 4 },  { 174, 0, 0, 18 },  { 191, 218, 3, 46 }, { 255, 264, 4, 6 },
+    };
+    // and a number, on either side of each width
+    static const struct { uint64_t number; size_t due; } widths[] = {
+        { 0, 0 }, { 63, 3 }, { 64, 4 }, { 16383, 4 }, { 16384, 6 }, { 1073741823, 6 }, { 1073741824, 10 }, { BOUND - 1, 10 },
+    };
+    uint8_t image[RECORD + 1] = { 0 };
+    for (size_t i = 0; i < sizeof alone / sizeof *alone; i++) {
+        default_record(image);
+        image[alone[i].flag] = 1;
+        if (alone[i].at != 0)
+            image[alone[i].at] = (uint8_t)alone[i].len;
+        if (alone[i].flag == 255)
+            put(image, 256, 27);
+        ACCEPTS(yuthpram_length(image, RECORD, &count));
+        CHECK(count == alone[i].due && kept(0));
+        ACCEPTS(yuthpram_write(image, RECORD, out, alone[i].due, &count));
+        CHECK(count == alone[i].due);
+    }
+    for (size_t i = 0; i < sizeof widths / sizeof *widths; i++) {
+        default_record(image);
+        put(image, 0, widths[i].number);
+        ACCEPTS(yuthpram_length(image, RECORD, &count));
+        CHECK(count == widths[i].due && kept(0));
+    }
+    // an order is not looked at, be it a permutation or not; a malformed record is not measured
+    image[281] = 1;
+    ACCEPTS(yuthpram_length(image, RECORD, &count));
+    CHECK(count == 10);
+    backwards(image + 282);
+    ACCEPTS(yuthpram_length(image, RECORD, &count));
+    CHECK(count == 10);
+    image[281] = 0;
+    REFUSES(7, yuthpram_length(image, RECORD, &count));
+    default_record(image);
+    put(image, 0, BOUND);
+    REFUSES(7, yuthpram_length(image, RECORD, &count));
+    default_record(image);
+    REFUSES(7, yuthpram_length(image, RECORD - 1, &count));
+    REFUSES(7, yuthpram_length(image, RECORD + 1, &count));
+}
+
 static void tidying(void)
 {
     // unknown, initial_max_data 5 in eight bytes, ack_delay_exponent at its default
@@ -351,6 +398,7 @@ static void no_images(void)
         image[at[i]] = 2; // a flag, or the last byte of a number that is absent
         REFUSES(YUTHPRAM_ILL_FORMED, yuthpram_check(image, RECORD, YUTHPRAM_CLIENT));
         REFUSES(YUTHPRAM_ILL_FORMED, yuthpram_write(image, RECORD, out, sizeof out, &count));
+        REFUSES(YUTHPRAM_ILL_FORMED, yuthpram_length(image, RECORD, &count));
         REFUSES(YUTHPRAM_ILL_FORMED, yuthpram_validate_resumption_from(image, RECORD, good, RECORD));
         REFUSES(YUTHPRAM_ILL_FORMED, yuthpram_validate_resumption_from(good, RECORD, image, RECORD));
         REFUSES(YUTHPRAM_ILL_FORMED, yuthpram_issue_cids_limit(image, RECORD, &value));
@@ -381,6 +429,7 @@ static void nothing(void)
     REFUSES(5, yuthpram_read(YUTHPRAM_SERVER, src, 3, NULL, 0));
     REFUSES(6, yuthpram_check_order(NULL, 0));
     REFUSES(7, yuthpram_write(NULL, 0, out, sizeof out, &count));
+    REFUSES(7, yuthpram_length(NULL, 0, &count));
     ACCEPTS(yuthpram_write(image, RECORD, NULL, 0, &count));
     CHECK(count == 0);
     put(image, 0, 5);
@@ -432,6 +481,7 @@ int main(void)
     reading();
     orders();
     writing();
+    lengths();
     tidying();
     building();
     not_building();

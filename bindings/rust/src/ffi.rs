@@ -14,6 +14,7 @@ extern "C" {
     pub fn yuthpram_read(side: u8, src: *const u8, src_len: usize, record: *mut u8, record_len: usize) -> u8;
     pub fn yuthpram_check_order(order: *const u8, order_len: usize) -> u8;
     pub fn yuthpram_write(record: *const u8, record_len: usize, out: *mut u8, out_len: usize, count: *mut usize) -> u8;
+    pub fn yuthpram_length(record: *const u8, record_len: usize, count: *mut usize) -> u8;
     pub fn yuthpram_tidy(side: u8, src: *const u8, src_len: usize, out: *mut u8, out_len: usize, count: *mut usize) -> u8;
     #[allow(clippy::too_many_arguments)]
     pub fn yuthpram_new(

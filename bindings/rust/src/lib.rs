@@ -174,6 +174,24 @@ impl TransportParameters {
         Ok(count)
     }
 
+    /// How many bytes `write` stores of the record, whatever its order: for a packer that keeps room before the order is drawn. `write_order`
+    /// is not looked at. At most `MAX_SIZE`; no record of these types is refused.
+    ///
+    /// ```
+    /// use yuthpram::TransportParameters;
+    /// let mut params = TransportParameters { grease_quic_bit: true, ..Default::default() };
+    /// let mut room = vec![0; params.length()];
+    /// params.write_order = Some(std::array::from_fn(|i| 20 - i as u8));
+    /// assert_eq!(params.write(&mut room)?, 3);
+    /// # Ok::<(), yuthpram::Error>(())
+    /// ```
+    pub fn length(&self) -> usize {
+        let (image, mut count) = (image::image_of(self), 0);
+        let number = unsafe { ffi::yuthpram_length(image.as_ptr(), image.len(), &mut count) };
+        debug_assert_eq!(number, 0);
+        count
+    }
+
     /// Checks the record for a side, the one that **reads** it, without reading or writing it: a server that checks what it is about to
     /// send asks `Side::Client`.
     ///

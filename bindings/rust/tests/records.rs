@@ -31,6 +31,7 @@ fn written_and_read_back() {
         p.write_order = order;
         let mut out = [0xaa; TransportParameters::MAX_SIZE];
         let n = p.write(&mut out).unwrap();
+        assert_eq!(p.length(), n);
         assert_eq!(TransportParameters::read(Side::Client, &out[..n]), Ok(full()));
         assert_eq!(p.write(&mut out[..n - 1]), Err(Error::BufferTooShort));
     }
@@ -51,6 +52,7 @@ fn refusals() {
     let mut p = full();
     p.write_order = Some([0; 21]);
     assert_eq!(p.write(&mut [0; 314]), Err(Error::InvalidOrder));
+    assert_eq!(p.length(), full().length());
     let built = |draw, payload: &[u8]| {
         TransportParameters::new(&Settings::default(), ConnectionId::new(&[]).unwrap(), draw, payload, &(0..21).collect::<Vec<u8>>())
     };

@@ -11,6 +11,7 @@ use lib.Dec.{leb}
 use borrow.Author.Tests.{le-leb}
 use Rattle.refusal.specs.Outcome.{Outcome, accepted, refused, pick, front, store}
 use Rattle.refusal.proofs.Laws.{all-at}
+use Rattle.refusal.proofs.Store.{stored-front, store-fits, Stored, stored}
 use Rattle.record.specs.declared.TransportParameters.{TransportParameters}
 use Rattle.rules.specs.declared.Side.{Side}
 use Rattle.record.specs.Values.{Bytes}
@@ -24,34 +25,6 @@ use Rattle.tidy.specs.Tidying.{tidyFrom, tidy}
 use Rattle.tidy.proofs.Laws.{tidy-formed, tidied}
 use Rattle.canonical.specs.Demand.{Accepts, Demand}
 use Rattle.canonical.proofs.Written.{read-back, catalogue-back, shortest}
-
--- STORING
-stored-front : (bs out : List ℕ) → take (length bs) (front bs out) ≡ bs
-unfolding front
-stored-front bs out = take-append-seam bs _
-
-store-fits : (bs out : List ℕ) → length bs ≤ length out → store bs out ≡ (accepted (length bs), front bs out)
-unfolding store
-store-fits bs out h = rw (le-leb _ _ h)
-
-record Stored (bs : List ℕ) (n : ℕ) (o : List ℕ) : Type 0 where
-  count : length bs ≡ n
-  are : take n o ≡ bs
-
-stored : (bs out o : List ℕ) (n : ℕ) → store bs out ≡ (accepted n, o) → Stored bs n o
-unfolding store
-stored bs out o n e = go (leb (length bs) (length out)) e
-  where
-    go : (t : Bool) → pick {A = Outcome ℕ × List ℕ} t (accepted (length bs), front bs out) (refused 5, out) ≡ (accepted n, o) → Stored bs n o
-    go true e =
-        let p : _≡_ {A = Outcome ℕ} (accepted (length bs)) (accepted n) = ap (λ (a : Outcome ℕ × List ℕ). a .0) e in
-        let q : front bs out ≡ o = ap (λ (a : Outcome ℕ × List ℕ). a .1) e in
-        let c : length bs ≡ n = cc in
-        record { count = c; are = rw (← q, ← c) (stored-front bs out) }
-    go false e =
-        let p : _≡_ {A = Outcome ℕ} (refused 5) (accepted n) = ap (λ (a : Outcome ℕ × List ℕ). a .0) e in
-        let z : _≡_ {A = ℕ} 0 1 = cc in
-        absurd (omega arith)
 
 -- what tidying stored, of a record that was read
 tidy-stored : (s : Side) (e out o : List ℕ) (n : ℕ) (r : TransportParameters) → Bytes e → read s e ≡ accepted r → tidy s e out ≡ (accepted n, o)

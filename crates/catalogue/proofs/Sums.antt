@@ -9,11 +9,7 @@ use native.Mathlib.Omega.{arith}
 use lib.Dec.{eqb}
 use borrow.Author.Tests.{ne-eqb, eqb-true, eqb-false}
 use Rattle.refusal.specs.Outcome.{pick}
-
--- of f below n
-unfoldable pub sum : ℕ → (ℕ → ℕ) → ℕ
-sum zero f = 0
-sum (suc n) f = sum n f + f n
+use Rattle.catalogue.specs.Sum.{sum}
 
 -- f but x at p
 abbrev pub but : (ℕ → ℕ) → ℕ → ℕ → ℕ → ℕ

@@ -1,1 +1,2 @@
 pub mod Catalogue
+pub mod Sum

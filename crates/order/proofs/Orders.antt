@@ -14,7 +14,8 @@ use lib.Dec.{eqb, ltb}
 use borrow.Author.Tests.{eqb-true, ltb-true}
 use Rattle.refusal.specs.Outcome.{pick, all}
 use Rattle.catalogue.specs.Catalogue.{places}
-use Rattle.catalogue.proofs.Sums.{sum, but, sum-eq, sum-but}
+use Rattle.catalogue.specs.Sum.{sum}
+use Rattle.catalogue.proofs.Sums.{but, sum-eq, sum-but}
 use Rattle.order.specs.Order.{member, distinct, permutation, catalogueOrder}
 
 -- what an order of distinct places has of its first

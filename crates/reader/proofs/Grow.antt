@@ -13,7 +13,8 @@ use Rattle.refusal.specs.Outcome.{Result, accepted, refused, pick}
 use Rattle.refusal.proofs.Laws.{inverted}
 use Rattle.catalogue.specs.Catalogue.{places, placeOf, idAt, kindAt, fits, illegal, parameter, parameterIf}
 use Rattle.record.specs.Values.{Bytes, Values, noValues, isSome, upd}
-use Rattle.catalogue.proofs.Sums.{sum, but, sum-eq, sum-but}
+use Rattle.catalogue.specs.Sum.{sum}
+use Rattle.catalogue.proofs.Sums.{but, sum-eq, sum-but}
 use Rattle.record.proofs.KindLaws.{Fits, IfSome}
 use Rattle.catalogue.proofs.Places.{id-of-place}
 use Rattle.record.proofs.Records.{Good, sizeAt}

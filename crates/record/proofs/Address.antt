@@ -176,7 +176,7 @@ address-of : (v x y : List ℕ) (n : ℕ) (c t : List ℕ) → Parts v x y n c t
 unfolding addressIn built
 address-of v x y n c t p = rw (p .count, p .first, p .second, p .id, p .last)
 
-abbrev valueOf : PreferredAddress → List ℕ
+abbrev pub valueOf : PreferredAddress → List ℕ
 valueOf a = whole (familyOut (ofV4 (a .«address_v4»))) (familyOut (ofV6 (a .«address_v6»))) (a .«connection_id» .len) (cidBytes (a .«connection_id»)) (a .«stateless_reset_token» .bytes)
 
 sent-parts : (a : PreferredAddress) → formedAddress a ≡ true
@@ -185,6 +185,9 @@ unfolding formedAddress formedToken
 sent-parts a h =
     parts (familyOut (ofV4 (a .«address_v4»))) (familyOut (ofV6 (a .«address_v6»))) (a .«connection_id» .len) (cidBytes (a .«connection_id»)) (a .«stateless_reset_token» .bytes)
     (fam-length 4 (ofV4 (a .«address_v4»)) (all-at _ h 0)) (fam-length 16 (ofV6 (a .«address_v6»)) (all-at _ h 1)) (cid-length (a .«connection_id») (cid-facts (a .«connection_id») (all-at _ h 2))) (eqb-true _ _ (all-at _ h 3))
+
+pub address-length : (a : PreferredAddress) → formedAddress a ≡ true → length (valueOf a) ≡ 41 + a .«connection_id» .len
+address-length a h = sent-parts a h .len
 
 pub address-back : (a : PreferredAddress) → formedAddress a ≡ true → familyRules a ≡ true → addressIn (addressOut a) ≡ a
 unfolding addressOut formedAddress familyRules built formedToken addressIn

@@ -116,7 +116,7 @@ impl VarInt {
 }
 
 // How many bytes the shortest form has; 8 for a value that has none.
-fn size_of(x: u64) -> usize
+pub fn size_of(x: u64) -> usize
     ensures { λ r. ⌜ r ≡ length (numberBytes x) ⌝ }
 {
     if x < 64 {

@@ -22,7 +22,8 @@ use Rattle.record.specs.declared.ReservedTransportParameter.{ReservedTransportP
 use Rattle.catalogue.specs.Catalogue.{Kind, reserved, places, ids, idAt, kinds, kindAt, defaults, parameter, parameterIf, widest}
 use Rattle.record.specs.Values.{numberOut, optionalOut, flagOut, cidOut, tokenOf, tokenOut, familyOut, addressOut, noOrder, otherValues, valuesOf}
 use Rattle.record.specs.Record.{formedOptional, formedOptionalCid, formedToken, formedOptionalToken, formedFamily, formedAddress, formedReserved, formedOrder, wellFormed}
-use Rattle.catalogue.proofs.Sums.{sum, sum-le}
+use Rattle.catalogue.specs.Sum.{sum}
+use Rattle.catalogue.proofs.Sums.{sum-le}
 use Rattle.record.proofs.KindLaws.{IfSome, Sound, number-mono, parameter-mono}
 use Rattle.record.proofs.Records.{Families, sound}
 use Rattle.writer.specs.Writing.{reservedBytes, parameterAt, concatOf, extension, maxExtension}

@@ -1,13 +1,14 @@
 -- Writing an extension (RFC 9000 section 18), as a definition: the parameters due, in the order given.
 use Prim.Native.Nat.{ℕ}
 use mathlib.Core.List.{List, [], _∷_, _++_}
-use lib.ListN.{take}
+use lib.ListN.{length, take}
 use lib.Dec.{eqb}
-use Rattle.refusal.specs.Outcome.{Outcome, refused, pick, store}
+use Rattle.refusal.specs.Outcome.{Outcome, accepted, refused, pick, store}
 use Rattle.record.specs.declared.TransportParameters.{TransportParameters}
 use Rattle.record.specs.declared.ReservedTransportParameter.{ReservedTransportParameter}
 use Rattle.record.specs.declared.WriteOrder.{WriteOrder}
-use Rattle.catalogue.specs.Catalogue.{idAt, parameter, parameterIf}
+use Rattle.catalogue.specs.Catalogue.{places, idAt, parameter, parameterIf}
+use Rattle.catalogue.specs.Sum.{sum}
 use Rattle.record.specs.Values.{valuesOf}
 use Rattle.record.specs.Record.{wellFormed}
 use Rattle.order.specs.Order.{permutation, catalogueOrder}
@@ -42,3 +43,7 @@ write r out =
     pick (wellFormed r)
     (pick (permutation (orderOf (r .«write_order»))) (store (extension r (orderOf (r .«write_order»))) out) (refused 6, out))
     (refused 7, out)
+
+-- the length of a record: its parameters due, added up in catalogue order; 7 if it is not well formed. Its order is not looked at
+unfoldable pub lengthOf : TransportParameters → Outcome ℕ
+lengthOf r = pick (wellFormed r) (accepted (sum places (λ p. length (parameterAt r p)))) (refused 7)

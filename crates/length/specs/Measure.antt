@@ -1,0 +1,52 @@
+-- What the length of a record says of writing it, over `write` itself: the answer, and the buffer afterwards.
+use Prim.Native.Nat.{ℕ, _≤_, _<_}
+use mathlib.Core.Path.{_≡_}
+use mathlib.Core.List.{List}
+use mathlib.Core.Logic.{_↔_}
+use mathlib.Core.Bool.{true}
+use lib.ListN.{length}
+use Rattle.refusal.specs.Outcome.{accepted, refused, front}
+use Rattle.record.specs.declared.TransportParameters.{TransportParameters}
+use Rattle.record.specs.Fields.{orderFrom}
+use Rattle.order.specs.Order.{permutation}
+use Rattle.writer.specs.Writing.{extension, maxExtension, orderOf, write, lengthOf}
+
+-- the record once its order is drawn
+unfoldable pub drawn : TransportParameters → List ℕ → TransportParameters
+drawn r os =
+    record {
+      numbers = r .numbers;
+      «disable_active_migration» = r .«disable_active_migration»;
+      «max_datagram_frame_size» = r .«max_datagram_frame_size»;
+      «initial_src_cid» = r .«initial_src_cid»;
+      «grease_quic_bit» = r .«grease_quic_bit»;
+      «min_ack_delay» = r .«min_ack_delay»;
+      «original_dst_cid» = r .«original_dst_cid»;
+      «retry_src_cid» = r .«retry_src_cid»;
+      «stateless_reset_token» = r .«stateless_reset_token»;
+      «preferred_address» = r .«preferred_address»;
+      «grease_transport_parameter» = r .«grease_transport_parameter»;
+      «write_order» = orderFrom true os;
+    }
+
+pub record Measure : Type 0 where
+  -- whatever permutation is drawn later: writing stores exactly so many bytes, and refuses 5 exactly if the buffer is shorter
+  pub stored :
+      (r : TransportParameters) (os out : List ℕ) (n : ℕ) → lengthOf r ≡ accepted n → permutation os ≡ true → n ≤ length out
+      → write (drawn r os) out ≡ (accepted n, front (extension r os) out)
+  pub tooShort :
+      (r : TransportParameters) (os out : List ℕ) (n : ℕ) → lengthOf r ≡ accepted n → permutation os ≡ true
+      → (write (drawn r os) out ≡ (refused 5, out)) ↔ (length out < n)
+  -- the same in the order that the record holds, or in catalogue order if it holds none
+  pub storedHeld :
+      (r : TransportParameters) (out : List ℕ) (n : ℕ) → lengthOf r ≡ accepted n → permutation (orderOf (r .«write_order»)) ≡ true → n ≤ length out
+      → write r out ≡ (accepted n, front (extension r (orderOf (r .«write_order»))) out)
+  pub tooShortHeld :
+      (r : TransportParameters) (out : List ℕ) (n : ℕ) → lengthOf r ≡ accepted n → permutation (orderOf (r .«write_order»)) ≡ true
+      → (write r out ≡ (refused 5, out)) ↔ (length out < n)
+  -- and what writing counted is the length
+  pub counted : (r : TransportParameters) (out out′ : List ℕ) (n : ℕ) → write r out ≡ (accepted n, out′) → lengthOf r ≡ accepted n
+  -- 7 by the one exactly if by the other
+  pub illFormed : (r : TransportParameters) (out : List ℕ) → (lengthOf r ≡ refused 7) ↔ (write r out ≡ (refused 7, out))
+  -- nothing is longer than the longest extension
+  pub atMost : (r : TransportParameters) (n : ℕ) → lengthOf r ≡ accepted n → n ≤ maxExtension
