@@ -2,14 +2,11 @@
 use Prim.Native.Nat.{ℕ, _≤_}
 use mathlib.Core.Path.{_≡_, refl, ap, sym, _∙_, subst}
 use mathlib.Core.List.{List}
-use mathlib.Core.Bool.{Bool, true, false}
+use mathlib.Core.Bool.{true}
 use mathlib.Core.Logic.{_↔_}
 use native.Mathlib.Omega.{arith}
 use lib.ListN.{length, take}
-use lib.Seq.{take-append-seam}
-use lib.Dec.{leb}
-use borrow.Author.Tests.{le-leb}
-use Rattle.refusal.specs.Outcome.{Outcome, accepted, refused, pick, front, store}
+use Rattle.refusal.specs.Outcome.{Outcome, accepted, refused, front}
 use Rattle.refusal.proofs.Laws.{all-at}
 use Rattle.refusal.proofs.Store.{stored-front, store-fits, Stored, stored}
 use Rattle.record.specs.declared.TransportParameters.{TransportParameters}

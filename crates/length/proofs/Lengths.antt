@@ -1,7 +1,7 @@
 -- The lengths that the code adds up are those of the parameters due. Assumes nothing.
 --     not-due, is-due    of a parameter
 --     all-lengths        all of them, for a well-formed record
-use Prim.Native.Nat.{ℕ, zero, suc, _+_, _*_, _≤_, _<_}
+use Prim.Native.Nat.{ℕ, _+_, _≤_, _<_}
 use mathlib.Core.Path.{_≡_, refl, ap, sym, _∙_}
 use mathlib.Core.List.{List, []}
 use mathlib.Core.Option.{none, some}
@@ -12,10 +12,10 @@ use lib.ListN.{length, getD, take, length-append}
 use lib.Seq.{length-take-le}
 use lib.Dec.{eqb}
 use borrow.Author.Tests.{not-true, not-false, eqb-true, leb-true, lt-ltb, ne-eqb}
-use Rattle.refusal.specs.Outcome.{Outcome, accepted, refused, pick}
+use Rattle.refusal.specs.Outcome.{accepted, refused, pick}
 use Rattle.refusal.proofs.Laws.{all-at}
 use Rattle.varint.specs.Number.{numberBytes}
-use Rattle.connection_id.specs.ConnectionId.{cidBytes, formedCid}
+use Rattle.connection_id.specs.ConnectionId.{cidBytes}
 use Rattle.connection_id.proofs.Laws.{cid-facts, cid-length}
 use Rattle.catalogue.specs.Catalogue.{places, idAt, defaults, parameter, parameterIf}
 use Rattle.catalogue.specs.Sum.{sum}
@@ -24,14 +24,13 @@ use Rattle.record.specs.declared.TransportParameters.{TransportParameters}
 use Rattle.record.specs.declared.OptionalNumber.{OptionalNumber}
 use Rattle.record.specs.declared.OptionalNumber.the-variants.{Absent, Present}
 use Rattle.record.specs.declared.OptionalConnectionId.{OptionalConnectionId}
-use Rattle.record.specs.declared.PreferredAddress.{PreferredAddress}
 use Rattle.record.specs.declared.ReservedTransportParameter.{ReservedTransportParameter}
 use Rattle.record.specs.Values.{numberOut, optionalOut, flagOut, cidOut, tokenOut, addressOut, otherValues, valuesOf}
-use Rattle.record.specs.Record.{formedOptionalCid, formedToken, formedOptionalToken, formedAddress, formedReserved, wellFormed}
+use Rattle.record.specs.Record.{formedOptionalCid, formedToken, formedOptionalToken, formedReserved, wellFormed}
 use Rattle.record.proofs.Address.{address-length}
 use Rattle.wire.proofs.Put.{number-size}
 use Rattle.writer.specs.Writing.{reservedBytes, parameterAt, lengthOf}
-use Rattle.length.specs.Length.{valueLength, numberLengthAt, optionalLength, cidLength, reservedLength, addressLength, othersLength}
+use Rattle.length.specs.Length.{valueLength, numberLengthAt, optionalLength, cidLength, reservedLength, othersLength}
 
 -- what the code gives for a parameter
 pub not-due : (id n : ℕ) → (0 ≡ valueLength false id n) × (0 < 1024)

@@ -7,7 +7,6 @@ use lib.Dec.{eqb}
 use Rattle.refusal.specs.Outcome.{pick}
 use Rattle.varint.specs.Number.{numberBytes}
 use Rattle.catalogue.specs.Catalogue.{defaults, idAt}
-use Rattle.catalogue.specs.Sum.{sum}
 use Rattle.record.specs.declared.TransportParameters.{TransportParameters}
 use Rattle.record.specs.declared.OptionalNumber.{OptionalNumber}
 use Rattle.record.specs.declared.OptionalConnectionId.{OptionalConnectionId}

@@ -2,12 +2,13 @@
 // an entry is laid out. Each call goes through the C interface's functions; compared are refusal, number, bytes stored and bytes left alone.
 use libc::STDIN_FILENO;
 use libc::STDOUT_FILENO;
+use text::word;
 
 // The longest input or output of an entry.
 const MOST: usize = 512;
 
 // How many operations there are.
-const OPERATIONS: usize = 15;
+const OPERATIONS: usize = 16;
 
 // What stands in an output and in a number before a call.
 const FILL: u8 = 0xa7;
@@ -150,6 +151,12 @@ fn write(x: &[u8], out: &mut [u8]) -> Called {
     storing(code, count as u64)
 }
 
+fn length(x: &[u8]) -> Called {
+    let mut count = UNTOUCHED as usize;
+    let code = yuthpram::yuthpram_length(x, &mut count);
+    storing(code, count as u64)
+}
+
 fn tidy(side: u8, x: &[u8], out: &mut [u8]) -> Called {
     let mut count = UNTOUCHED as usize;
     let code = yuthpram::yuthpram_tidy(side, x, out, &mut count);
@@ -219,7 +226,8 @@ fn call(op: u8, number: u64, x: &[u8], y: &[u8], z: &[u8], w: &[u8], out: &mut [
         11 => plain(yuthpram::yuthpram_check(x, side)),
         12 => tidy(side, x, out),
         13 => tidy_twice(side, x, out),
-        _ => plain(yuthpram::yuthpram_check_order(x)),
+        14 => plain(yuthpram::yuthpram_check_order(x)),
+        _ => length(x),
     }
 }
 
@@ -288,7 +296,7 @@ fn judge(h: Head) -> Verdict {
     }
 }
 
-fn one_more(counts: &mut [u64; 15], op: u8) {
+fn one_more(counts: &mut [u64; OPERATIONS], op: u8) {
     let i = op as usize;
     if i < OPERATIONS {
         counts[i] = std::num::wrapping_add_u64(counts[i], 1);
@@ -296,7 +304,7 @@ fn one_more(counts: &mut [u64; 15], op: u8) {
 }
 
 // One entry; whether to go on. The list ends where no head is left.
-fn entry(cases: &mut [u64; 15], differences: &mut [u64; 15]) -> bool {
+fn entry(cases: &mut [u64; OPERATIONS], differences: &mut [u64; OPERATIONS]) -> bool {
     let mut bytes = [0u8; 32];
     if !take(&mut bytes, 32) {
         return false;
@@ -318,14 +326,14 @@ fn entry(cases: &mut [u64; 15], differences: &mut [u64; 15]) -> bool {
 }
 
 // Goes through the list. The count of turns is for the proof that it ends: no list is so long.
-fn replay(cases: &mut [u64; 15], differences: &mut [u64; 15]) {
+fn replay(cases: &mut [u64; OPERATIONS], differences: &mut [u64; OPERATIONS]) {
     let mut turns = u64::MAX;
     while turns > 0 && entry(cases, differences) {
         turns -= 1;
     }
 }
 
-fn show(name: &[u8], i: usize, cases: &[u64; 15], differences: &[u64; 15]) {
+fn show(name: &[u8], i: usize, cases: &[u64; OPERATIONS], differences: &[u64; OPERATIONS]) {
     if OPERATIONS <= i {
         return;
     }
@@ -337,23 +345,34 @@ fn show(name: &[u8], i: usize, cases: &[u64; 15], differences: &[u64; 15]) {
     io::write_all(STDOUT_FILENO, b" differences\n");
 }
 
+// A line for each operation.
+fn show_all(cases: &[u64; OPERATIONS], differences: &[u64; OPERATIONS]) {
+    let names = b"number_size
+number_read
+number_write
+cid_read
+cid_write
+default
+read
+write
+new
+resumption
+issue_limit
+check
+tidy
+tidy twice
+check_order
+length";
+    let mut i: usize = 0;
+    while i < OPERATIONS {
+        show(word(names, i, b'\n'), i, cases, differences);
+        i += 1;
+    }
+}
+
 fn main() {
-    let mut cases = [0u64; 15];
-    let mut differences = [0u64; 15];
+    let mut cases = [0u64; OPERATIONS];
+    let mut differences = [0u64; OPERATIONS];
     replay(&mut cases, &mut differences);
-    show(b"number_size", 0, &cases, &differences);
-    show(b"number_read", 1, &cases, &differences);
-    show(b"number_write", 2, &cases, &differences);
-    show(b"cid_read", 3, &cases, &differences);
-    show(b"cid_write", 4, &cases, &differences);
-    show(b"default", 5, &cases, &differences);
-    show(b"read", 6, &cases, &differences);
-    show(b"write", 7, &cases, &differences);
-    show(b"new", 8, &cases, &differences);
-    show(b"resumption", 9, &cases, &differences);
-    show(b"issue_limit", 10, &cases, &differences);
-    show(b"check", 11, &cases, &differences);
-    show(b"tidy", 12, &cases, &differences);
-    show(b"tidy twice", 13, &cases, &differences);
-    show(b"check_order", 14, &cases, &differences);
+    show_all(&cases, &differences);
 }

@@ -1,7 +1,8 @@
 -- What the code answers at each `return`, as the definitions have it. Assumes nothing.
 --     into-count                  a code and a count, by the outcome of an answer
---     coded-, given-, not-        an operation on a result that came first
---     answered-                   the outcome that an answer and the value beside it stand for
+--     into-code                   a code by itself
+--     given-, not-                an operation on a result that came first
+--     decoded-                    the outcome that an answer and the ID beside it stand for
 --     build-or                    building on an ill-formed ID in place of none
 use Prim.Native.Nat.{ℕ}
 use mathlib.Core.Path.{_≡_, refl, ap, sym, _∙_}
@@ -10,12 +11,9 @@ use mathlib.Core.Bool.{Bool, true, false}
 use lib.ListN.{length}
 use lib.Dec.{eqb}
 use borrow.Author.Tests.{eq-eqb, ne-eqb}
-use Rattle.refusal.specs.Outcome.{Outcome, accepted, refused, pick, andThen, all}
+use Rattle.refusal.specs.Outcome.{Outcome, accepted, refused, pick, all}
 use Rattle.refusal.specs.Number.{numberOf}
-use Rattle.refusal.specs.Answer.{answerOutcome, settledBy}
 use Rattle.refusal.specs.declared.Refusal.{Refusal}
-use Rattle.refusal.specs.declared.Answer.{Answer}
-use Rattle.refusal.specs.declared.Answer.the-variants.{Accepted, Refused}
 use Rattle.refusal.specs.declared.Counted.the-variants.{Count, Refused as RefusedC}
 use Rattle.refusal.proofs.Laws.{pick-cases}
 use Rattle.connection_id.specs.declared.ConnectionId.{ConnectionId}
@@ -25,7 +23,8 @@ use Rattle.connection_id.specs.Answer.{withCid, readOutcome, settled}
 use Rattle.building.specs.declared.Settings.{Settings}
 use Rattle.building.specs.Building.{settingsFit, build}
 use Rattle.image.specs.Image.{cidFrom}
-use Rattle.yuthpram.specs.Interface.{code, coded, counted, countCode, counting, given, numberInto, settingsFrom, buildFrom, idOr, newRecord}
+use Rattle.by_image.specs.ByImage.{given}
+use Rattle.yuthpram.specs.Interface.{code, coded, counted, countCode, counting, numberInto, settingsFrom, buildFrom, idOr, newRecord}
 
 -- NUMBERS
 module _ (o o′ : Outcome (ℕ × ℕ)) (e : o ≡ o′) (v n : ℕ) where
@@ -40,11 +39,8 @@ module _ (o : Outcome ℕ) (out : List ℕ) (w : Outcome ℕ × List ℕ) (e : (
   pub into-count : (c k n : ℕ) → (c, k) ≡ countCode o n → (c, out, k) ≡ counted w n
   into-count c k n f = ap (λ (p : ℕ × ℕ). (p .0, out, p .1)) f ∙ ap (λ w. counted w n) e
 
-  pub coded-done : (k : ℕ) → o ≡ accepted k → (0, out) ≡ coded w
-  coded-done k f = rw (← e, f)
-
-  pub coded-refused : (r c : ℕ) → o ≡ refused r → c ≡ r → (c, out) ≡ coded w
-  coded-refused r c f g = rw (← e, f, g)
+  pub into-code : (c : ℕ) → c ≡ code o → (c, out) ≡ coded w
+  into-code c f = rw (f, ← e)
 
   -- the image of a connection ID, with the count of what it was read from
   pub cid-counted : (k m n : ℕ) → o ≡ accepted m → (0, out, k) ≡ counted (counting k (w .0), w .1) n
@@ -67,21 +63,7 @@ module _ {A : Type 0} (o : Outcome A) (f : A → List ℕ → Outcome ℕ × Lis
   pub not-counted : (r c n : ℕ) → o ≡ refused r → c ≡ r → (c, out, n) ≡ counted (given o f out) n
   not-counted r c n e h = rw (e, h)
 
-module _ {A B : Type 0} (o : Outcome A) (f : A → Outcome B) where
-  pub then-code : (a : A) (k : ℕ) → o ≡ accepted a → k ≡ code (f a) → k ≡ code (andThen o f)
-  then-code a k e h = rw e h
-
-  pub then-refused : (r c : ℕ) → o ≡ refused r → c ≡ r → c ≡ code (andThen o f)
-  then-refused r c e h = rw (e, h)
-
 -- OUTCOMES OF CALLEES
-module _ {A : Type 0} (a d : A) (x : Answer) (o : Outcome A) (e : (answerOutcome a x, a) ≡ settledBy d o) where
-  pub answered-in : x ≡ Accepted → o ≡ accepted a
-  answered-in h = sym (ap (λ (p : Outcome A × A). p .0) e) ∙ ap (answerOutcome a) h
-
-  pub answered-out : (r : Refusal) → x ≡ Refused r → o ≡ refused (numberOf r)
-  answered-out r h = sym (ap (λ (p : Outcome A × A). p .0) e) ∙ ap (answerOutcome a) h
-
 module _ (d : DecodedCid) (s : List ℕ) (e : (readOutcome d, d .cid) ≡ settled (readCid s)) where
   pub decoded-in : (n : ℕ) → d .answer ≡ Count n → readCid s ≡ accepted (d .cid, n)
   decoded-in n h = sym (ap (λ p. p .0) e) ∙ ap (withCid (d .cid)) h

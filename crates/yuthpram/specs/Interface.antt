@@ -13,16 +13,14 @@ use Rattle.record.specs.declared.TransportParameters.{TransportParameters}
 use Rattle.record.specs.declared.OptionalNumber.the-variants.{Absent, Present}
 use Rattle.rules.specs.declared.Side.{Side}
 use Rattle.rules.specs.declared.Side.the-variants.{Client, Server}
-use Rattle.rules.specs.Rules.{checkRecord}
 use Rattle.record.specs.Record.{defaultRecord}
-use Rattle.reader.specs.Reading.{read}
 use Rattle.order.specs.Order.{permutation}
-use Rattle.writer.specs.Writing.{write}
 use Rattle.tidy.specs.Tidying.{tidy}
 use Rattle.building.specs.declared.Settings.{Settings}
 use Rattle.building.specs.Building.{settingsFit, build}
-use Rattle.resumption.specs.Resumption.{resume, issueLimit}
-use Rattle.image.specs.Image.{imageOf, recordFrom, cidImage, cidFrom}
+use Rattle.resumption.specs.Resumption.{issueLimit}
+use Rattle.image.specs.Image.{recordFrom, cidImage, cidFrom}
+use Rattle.by_image.specs.ByImage.{given, recordStore, imageRead, imageCheck, imageWrite, imageLength, imageResume}
 
 -- 0 is a client, anything else a server
 abbrev pub sideOf : ℕ → Side
@@ -48,11 +46,6 @@ countCode o n = (code o, countIn o n)
 -- the code, the buffer and the count
 abbrev pub counted : Outcome ℕ × List ℕ → ℕ → ℕ × List ℕ × ℕ
 counted w n = (code (w .0), w .1, countIn (w .0) n)
-
--- a result, and what is done with it: its refusal comes first
-abbrev pub given : {A : Type 0} → Outcome A → (A → List ℕ → Outcome ℕ × List ℕ) → List ℕ → Outcome ℕ × List ℕ
-given (accepted a) f out = f a out
-given (refused e) f out = (refused e, out)
 
 -- a stored result that counts k
 abbrev pub counting : ℕ → Outcome ℕ → Outcome ℕ
@@ -84,23 +77,23 @@ unfoldable pub cidWrite : List ℕ → List ℕ → ℕ → ℕ × List ℕ × �
 cidWrite cid out n = counted (given (cidFrom cid) writeCid out) n
 
 -- RECORDS
-unfoldable pub recordStore : TransportParameters → List ℕ → Outcome ℕ × List ℕ
-recordStore r out = store (imageOf r) out
-
 unfoldable pub recordDefault : List ℕ → ℕ × List ℕ
 recordDefault image = coded (recordStore defaultRecord image)
 
 unfoldable pub recordCheck : List ℕ → ℕ → ℕ
-recordCheck image side = code (andThen (recordFrom image) (checkRecord (sideOf side)))
+recordCheck image side = code (imageCheck image (sideOf side))
 
 unfoldable pub recordRead : ℕ → List ℕ → List ℕ → ℕ × List ℕ
-recordRead side src image = coded (given (read (sideOf side) src) recordStore image)
+recordRead side src image = coded (imageRead (sideOf side) src image)
 
 unfoldable pub orderCheck : List ℕ → ℕ
 orderCheck order = pick (permutation order) 0 6
 
 unfoldable pub recordWrite : List ℕ → List ℕ → ℕ → ℕ × List ℕ × ℕ
-recordWrite image out n = counted (given (recordFrom image) write out) n
+recordWrite image out n = counted (imageWrite image out) n
+
+unfoldable pub recordLength : List ℕ → ℕ → ℕ × ℕ
+recordLength image n = countCode (imageLength image) n
 
 unfoldable pub tidied : ℕ → List ℕ → List ℕ → ℕ → ℕ × List ℕ × ℕ
 tidied side src out n = counted (tidy (sideOf side) src out) n
@@ -139,11 +132,8 @@ unfoldable pub recordNew : List ℕ → List ℕ → ℕ → List ℕ → List �
 recordNew settings cid draw payload order image = coded (given (newRecord settings cid draw payload order) recordStore image)
 
 -- RESUMPTION
-unfoldable pub resumeImage : TransportParameters → List ℕ → Outcome (Unit {0})
-resumeImage r cached = andThen (recordFrom cached) λ c. resume r c
-
 unfoldable pub resumeCheck : List ℕ → List ℕ → ℕ
-resumeCheck image cached = code (andThen (recordFrom image) λ r. resumeImage r cached)
+resumeCheck image cached = code (imageResume image cached)
 
 abbrev pub limitInto : Outcome TransportParameters → ℕ → ℕ × ℕ
 limitInto (accepted r) n = (0, issueLimit r)

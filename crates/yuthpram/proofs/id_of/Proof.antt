@@ -1,5 +1,5 @@
 -- `yuthpram::id_of` meets its contract. Assumes nothing.
-use Rattle.yuthpram.proofs.Answers.{answered-in, answered-out}
+use Rattle.by_image.proofs.Answers.{answered-in, answered-out}
 use borrow.Author.Needs.{needs}
 use Rattle.yuthpram.proofs.id_of.Statement.{statement}
 use Rattle.yuthpram.proofs.id_of.Tie as tie

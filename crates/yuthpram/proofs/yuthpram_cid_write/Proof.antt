@@ -1,7 +1,8 @@
 -- `yuthpram::yuthpram_cid_write` meets its contract. Assumes nothing.
 use Rattle.connection_id.specs.ConnectionId.{writeCid}
+use Rattle.by_image.proofs.Answers.{answered-in, answered-out}
 use Rattle.yuthpram.specs.Interface.{cidWrite}
-use Rattle.yuthpram.proofs.Answers.{given-counted, not-counted, into-count, answered-in, answered-out}
+use Rattle.yuthpram.proofs.Answers.{given-counted, not-counted, into-count}
 use borrow.Author.Needs.{needs}
 use Rattle.yuthpram.proofs.yuthpram_cid_write.Statement.{statement}
 use Rattle.yuthpram.proofs.yuthpram_cid_write.Tie as tie

@@ -1,6 +1,6 @@
 -- `yuthpram::yuthpram_issue_cids_limit` meets its contract. Assumes nothing.
 use Rattle.yuthpram.specs.Interface.{limitRead}
-use Rattle.yuthpram.proofs.Answers.{answered-in, answered-out}
+use Rattle.by_image.proofs.Answers.{answered-in, answered-out}
 use borrow.Author.Needs.{needs}
 use Rattle.yuthpram.proofs.yuthpram_issue_cids_limit.Statement.{statement}
 use Rattle.yuthpram.proofs.yuthpram_issue_cids_limit.Tie as tie

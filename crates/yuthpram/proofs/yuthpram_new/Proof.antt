@@ -1,7 +1,9 @@
 -- `yuthpram::yuthpram_new` meets its contract. Assumes nothing.
 use mathlib.Core.Path.{sym, _∙_}
-use Rattle.yuthpram.specs.Interface.{recordNew, recordStore}
-use Rattle.yuthpram.proofs.Answers.{given-coded, not-coded, other-count, built, answered-in, answered-out}
+use Rattle.by_image.specs.ByImage.{recordStore}
+use Rattle.by_image.proofs.Answers.{answered-in, answered-out}
+use Rattle.yuthpram.specs.Interface.{recordNew}
+use Rattle.yuthpram.proofs.Answers.{into-code, given-coded, not-coded, other-count, built}
 use borrow.Author.Needs.{needs}
 use Rattle.yuthpram.proofs.yuthpram_new.Statement.{statement}
 use Rattle.yuthpram.proofs.yuthpram_new.Tie as tie
@@ -11,10 +13,10 @@ unfolding recordNew
 returns c = not-coded _ recordStore _ _ _ (other-count _ _ _ _ _ (c .before .if1 .taken)) (c .number .ensures)
 
 returns-2 : tie.Need-returns-2
-unfolding recordNew
+unfolding recordNew recordStore
 returns-2 c =
-    let b = built _ _ _ _ _ (c .before .before .before .before .before .before .before .before .before .before .if1 .left) _ _ (c .before .before .before .before .before .before .before .before .settings-from .ensures) (c .before .before .before .before .before .before .before .before .before .id-of .ensures) in
-    given-coded _ recordStore _ _ _ (sym b ∙ answered-in _ _ _ _ (c .before .before .before .before .before .before .before .new .ensures) (c .before .before .before .before .before .enum-told .given .1)) (c .before .before .store-record .ensures)
+    let b = built _ _ _ _ _ (c .before .before .before .before .before .before .before .before .before .before .before .if1 .left) _ _ (c .before .before .before .before .before .before .before .before .before .settings-from .ensures) (c .before .before .before .before .before .before .before .before .before .before .id-of .ensures) in
+    given-coded _ recordStore _ _ _ (sym b ∙ answered-in _ _ _ _ (c .before .before .before .before .before .before .before .before .new .ensures) (c .before .before .before .before .before .before .enum-told .given .1)) (into-code _ _ _ (c .before .before .before .image-to .ensures) _ (c .stored-code .ensures))
 
 returns-3 : tie.Need-returns-3
 unfolding recordNew
@@ -32,6 +34,7 @@ yuthpram-new-spec =
     (λ c κs. search needs)
     (λ c κs. search needs)
     (λ c. search needs)
+    (λ c κs. search needs)
     (λ c κs. search needs)
     (λ c. search needs)
     (λ c κs. search needs)
