@@ -1,11 +1,12 @@
 -- The worked examples (a) to (n): for each a side, an operation, its input and the outcome. The definitions are those that the contracts
--- of reading, tidying and writing cite.
+-- of reading, tidying, writing and the length cite.
 use Prim.Native.Nat.{ℕ}
 use mathlib.Core.Path.{_≡_}
 use mathlib.Core.List.{List, [], _∷_}
 use mathlib.Core.Bool.{Bool, true, false}
 use lib.ListN.{length, replicate}
 use Rattle.refusal.specs.Outcome.{Outcome, accepted, refused}
+use Rattle.varint.specs.Number.{bound}
 use Rattle.connection_id.specs.ConnectionId.{cidOf}
 use Rattle.record.specs.declared.TransportParameters.{TransportParameters}
 use Rattle.record.specs.declared.OptionalNumber.{OptionalNumber}
@@ -16,7 +17,7 @@ use Rattle.rules.specs.declared.Side.the-variants.{Client, Server}
 use Rattle.record.specs.Values.{noReserved, noOrder, tokenOf, toV4, toV6}
 use Rattle.record.specs.Record.{defaultRecord}
 use Rattle.reader.specs.Reading.{read}
-use Rattle.writer.specs.Writing.{write}
+use Rattle.writer.specs.Writing.{write, lengthOf}
 use Rattle.tidy.specs.Tidying.{tidy}
 
 pub data Example : Type 0 where
@@ -26,12 +27,15 @@ pub data Example : Type 0 where
   tidying : Side → List ℕ → List ℕ → Example
   -- a record that is written, and the bytes stored
   writing : TransportParameters → List ℕ → Example
+  -- the length of a record
+  measuring : TransportParameters → Outcome ℕ → Example
 
 -- what an example states. The buffers of tidying and writing are exactly long enough
 abbrev pub Holds : Example → Type 0
 Holds (reading s e o) = read s e ≡ o
 Holds (tidying s e t) = tidy s e (replicate (length t) 0) ≡ (accepted (length t), t)
 Holds (writing r t) = write r (replicate (length t) 0) ≡ (accepted (length t), t)
+Holds (measuring r o) = lengthOf r ≡ o
 
 abbrev pub Each : List Example → Type 0
 Each [] = Unit {0}
@@ -76,6 +80,10 @@ reversed =
       places = 20 ∷ 19 ∷ 18 ∷ 17 ∷ 16 ∷ 15 ∷ 14 ∷ 13 ∷ 12 ∷ 11 ∷ 10 ∷ 9 ∷ 8 ∷ 7 ∷ 6 ∷ 5 ∷ 4 ∷ 3 ∷ 2 ∷ 1 ∷ 0 ∷ [];
     }
 
+-- every place the first
+abbrev pub nowhere : WriteOrder
+nowhere = record { present = true; places = replicate 21 0 }
+
 unfoldable pub examples : List Example
 examples =
     -- (a)
@@ -109,4 +117,10 @@ examples =
     ∷ reading Client (0xc0 ∷ 0x00 ∷ 0x00 ∷ 0x00 ∷ 0xff ∷ 0x04 ∷ 0xde ∷ 0x1b ∷ 0x04 ∷ 0x80 ∷ 0x00 ∷ 0x61 ∷ 0xa9 ∷ []) (refused 2)
     ∷  -- (n)
     writing (with (numbers 30000 65527 25) false true Absent reversed) (0x6a ∷ 0xb2 ∷ 0x00 ∷ 0x01 ∷ 0x04 ∷ 0x80 ∷ 0x00 ∷ 0x75 ∷ 0x30 ∷ [])
+    ∷  -- and its length, in that order, before one is drawn and with one that is no permutation; a default; a number of 2 ^ 62
+    measuring (with (numbers 30000 65527 25) false true Absent reversed) (accepted 9)
+    ∷ measuring (with (numbers 30000 65527 25) false true Absent noOrder) (accepted 9)
+    ∷ measuring (with (numbers 30000 65527 25) false true Absent nowhere) (accepted 9)
+    ∷ measuring defaultRecord (accepted 0)
+    ∷ measuring (plain (numbers bound 65527 25)) (refused 7)
     ∷ []

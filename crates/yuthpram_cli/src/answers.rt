@@ -21,10 +21,20 @@ use text::out::say_number;
 use varint::Decoded;
 use varint::VarInt;
 
+// Shows the record that reading gave, and before it its length.
 fn show_record(r: TransportParameters) {
     let mut record = [0u8; RECORD_SIZE];
     image::image_to(r, &mut record);
+    note_length(&record);
     show::show(&record);
+}
+
+fn note_length(record: &[u8]) {
+    if let Counted::Count(n) = by_image::length(record) {
+        note(b"length ");
+        put_count(STDERR_FILENO, n);
+        note(b"\n");
+    }
 }
 
 // Reads an extension, and shows it or only tells that it is accepted.
@@ -55,15 +65,6 @@ fn say_stored(stored: Counted, out: &[u8]) -> Status {
     }
 }
 
-// The operations on a record, by its image.
-fn write_image(record: &[u8], out: &mut [u8]) -> Counted {
-    writer::write(imaged::record_from(record).parameters, out)
-}
-
-fn check_image(side: Side, record: &[u8]) -> Answer {
-    rules::check(imaged::record_from(record).parameters, side)
-}
-
 // Writes a record in text form.
 pub fn write(text: &[u8]) -> Status {
     let mut record = [0u8; RECORD_SIZE];
@@ -71,14 +72,33 @@ pub fn write(text: &[u8]) -> Status {
         return Status::Misused;
     }
     let mut out = [0u8; MAX_EXTENSION];
-    let stored = write_image(&record, &mut out);
+    let stored = by_image::write(&record, &mut out);
+    if let Counted::Count(_) = stored {
+        note_length(&record);
+    }
     say_stored(stored, &out)
+}
+
+// Tells the length of a record in text form.
+pub fn length(text: &[u8]) -> Status {
+    let mut record = [0u8; RECORD_SIZE];
+    if !form::fill(text, &mut record) {
+        return Status::Misused;
+    }
+    match by_image::length(&record) {
+        Counted::Count(n) => {
+            put_count(STDOUT_FILENO, n);
+            say(b"\n");
+            Status::Answered
+        }
+        Counted::Refused(r) => refused(r),
+    }
 }
 
 // Which rule a record breaks: that which its extension breaks, or that no family that is given is all zero.
 fn note_rule(side: Side, record: &[u8]) {
     let mut out = [0u8; MAX_EXTENSION];
-    let Counted::Count(n) = write_image(record, &mut out) else {
+    let Counted::Count(n) = by_image::write(record, &mut out) else {
         return;
     };
     note_culprit(side, first(n, &out));
@@ -90,7 +110,7 @@ fn check_record(side: Side, text: &[u8]) -> Status {
     if !form::fill(text, &mut record) {
         return Status::Misused;
     }
-    let Answer::Refused(r) = check_image(side, &record) else {
+    let Answer::Refused(r) = by_image::check(&record, side) else {
         say(b"legal\n");
         return Status::Answered;
     };

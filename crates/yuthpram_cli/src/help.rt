@@ -12,6 +12,7 @@ fn usage(fd: i32) {
   yuthpram check SIDE [HEX]            tell whether SIDE accepts it
   yuthpram check SIDE --record [FILE]  tell whether a record in text form is legal for SIDE to read
   yuthpram write [FILE]                write the extension of a record in text form
+  yuthpram length [FILE]               tell how long it will be, in every order
   yuthpram number HEX                  decode a number: its value and how many bytes it takes
   yuthpram number --write DECIMAL      encode a number in its shortest form
 ",
@@ -43,8 +44,8 @@ not show:
   order 20 19 .. 0                     the places of the catalogue in the order of writing
   # ..                                 a comment
 
-Answers go to standard output; refusals, complaints and what tidying saved to standard error. Exit status: 0 answered, 1 refused, 2 not
-called as it should be, 3 the answer could not be written.\n",
+Answers go to standard output; refusals, complaints, what tidying saved and the length of a record that is shown or written to standard
+error. Exit status: 0 answered, 1 refused, 2 not called as it should be, 3 the answer could not be written.\n",
     );
     Status::Answered
 }

@@ -29,7 +29,9 @@ const CHECK: usize = 2;
 
 const WRITE: usize = 3;
 
-const NUMBER: usize = 4;
+const LENGTH: usize = 4;
+
+const NUMBER: usize = 5;
 
 fn encode_command() -> Status {
     if is_followed(3) {
@@ -64,7 +66,8 @@ fn operate(command: usize) -> Status {
     let start = start_of(command);
     let is_record = start == 4;
     let mut src = io::large_buffer();
-    let Input::Bytes(n) = input::input_at(start, is_record || command == WRITE, &mut src) else {
+    let is_form = is_record || command == WRITE || command == LENGTH;
+    let Input::Bytes(n) = input::input_at(start, is_form, &mut src) else {
         return Status::Misused;
     };
     let bytes = first(n, &src);
@@ -73,6 +76,7 @@ fn operate(command: usize) -> Status {
         TIDY => answers::tidy(side, bytes),
         CHECK => answers::check(side, bytes, is_record),
         WRITE => answers::write(bytes),
+        LENGTH => answers::length(bytes),
         _ => answers::decode(bytes),
     }
 }
@@ -81,7 +85,7 @@ fn run() -> Status {
     if os::arg_count() < 2 {
         return help::say_help();
     }
-    let command = choice(1, b"read tidy check write number --help -h", 7);
+    let command = choice(1, b"read tidy check write length number --help -h", 8);
     if command == NUMBER {
         if choice(2, b"--write", 1) == 0 {
             return encode_command();
@@ -90,7 +94,7 @@ fn run() -> Status {
     if command <= NUMBER {
         return operate(command);
     }
-    if command == 7 {
+    if command == 8 {
         return help::misused(b"yuthpram: no such command\n");
     }
     help::say_help()
