@@ -2,3 +2,4 @@ pub mod AnyOrder
 pub mod Written
 pub mod Theorem
 pub mod Built
+pub mod Measured

@@ -24,7 +24,7 @@ use Rattle.canonical.specs.Demand.{Accepts, Demand}
 use Rattle.canonical.proofs.Written.{read-back, catalogue-back, shortest}
 
 -- what tidying stored, of a record that was read
-tidy-stored : (s : Side) (e out o : List ℕ) (n : ℕ) (r : TransportParameters) → Bytes e → read s e ≡ accepted r → tidy s e out ≡ (accepted n, o)
+pub tidy-stored : (s : Side) (e out o : List ℕ) (n : ℕ) (r : TransportParameters) → Bytes e → read s e ≡ accepted r → tidy s e out ≡ (accepted n, o)
     → Stored (extension r catalogueOrder) n o
 tidy-stored s e out o n r hb k t = stored (extension r catalogueOrder) out o n (sym (tidied s e out r hb k) ∙ t)
 
