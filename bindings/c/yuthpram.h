@@ -81,7 +81,8 @@ enum { YUTHPRAM_CLIENT = 0, YUTHPRAM_SERVER = 1 };
  * settings of yuthpram_new.
  *
  * Whether what an image holds is well formed (numbers below 2^62, IDs of at most 20 bytes, zeros behind them and in whatever is absent) is
- * another matter. Checking, writing, the length, building and resumption look at it, and refuse with the same number; yuthpram_issue_cids_limit does not.
+ * another matter. Checking, writing, the length, building and resumption look at it, and refuse with the same number;
+ * yuthpram_issue_cids_limit does not.
  */
 #define YUTHPRAM_CID_SIZE 21
 #define YUTHPRAM_RECORD_SIZE 303
@@ -139,7 +140,7 @@ uint8_t yuthpram_check_order(const uint8_t *order, size_t order_len);
 uint8_t yuthpram_write(const uint8_t *record, size_t record_len, uint8_t *out, size_t out_len, size_t *count);
 
 /* The length of a record: how many bytes yuthpram_write stores of it in every order that is a permutation, so that room can be kept before the
- * order is drawn. The order that the record has is not looked at. At most YUTHPRAM_MAX_EXTENSION. Refuses 7. */
+ * order is drawn. Whether the order that the record has is a permutation is not looked at. At most YUTHPRAM_MAX_EXTENSION. Refuses 7. */
 uint8_t yuthpram_length(const uint8_t *record, size_t record_len, size_t *count);
 
 /* Reads an extension for the side that reads, and writes it in its one shortest form. Refuses 1 or 2, then 5. */

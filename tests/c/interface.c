@@ -251,18 +251,14 @@ static void writing(void)
     REFUSES(7, yuthpram_write(image, RECORD, out, 0, &count));
 }
 
-static void lengths(void)
+// What each field is worth alone: the place of its flag, the place and value of its length.
+static void field_lengths(void)
 {
-    // what each field is worth alone: the place of its flag, the place and value of its length
     static const struct { size_t flag, at, len, due; } alone[] = {
-        { 88, 0, 0, 2 },     { 89, 0, 0, 3 },     { 90, 0, 0, 3 },    { 99, 0, 0, 10 },    { 108, 109, 2, 4 },
-        { 130, 131, 2, 4 },  { 152, 153, 2, 4 },  { 174, 0, 0, 18 },  { 191, 218, 3, 46 }, { 255, 264, 4, 6 },
+        { 88, 0, 0, 2 },    { 89, 0, 0, 3 },    { 90, 0, 0, 3 },   { 99, 0, 0, 10 },    { 108, 109, 2, 4 },
+        { 130, 131, 2, 4 }, { 152, 153, 2, 4 }, { 174, 0, 0, 18 }, { 191, 218, 3, 46 }, { 255, 264, 4, 6 },
     };
-    // and a number, on either side of each width
-    static const struct { uint64_t number; size_t due; } widths[] = {
-        { 0, 0 }, { 63, 3 }, { 64, 4 }, { 16383, 4 }, { 16384, 6 }, { 1073741823, 6 }, { 1073741824, 10 }, { BOUND - 1, 10 },
-    };
-    uint8_t image[RECORD + 1] = { 0 };
+    uint8_t image[RECORD];
     for (size_t i = 0; i < sizeof alone / sizeof *alone; i++) {
         default_record(image);
         image[alone[i].flag] = 1;
@@ -274,20 +270,42 @@ static void lengths(void)
         CHECK(count == alone[i].due && kept(0));
         ACCEPTS(yuthpram_write(image, RECORD, out, alone[i].due, &count));
         CHECK(count == alone[i].due);
+        REFUSES(5, yuthpram_write(image, RECORD, out, alone[i].due - 1, &count));
     }
-    for (size_t i = 0; i < sizeof widths / sizeof *widths; i++) {
-        default_record(image);
-        put(image, 0, widths[i].number);
-        ACCEPTS(yuthpram_length(image, RECORD, &count));
-        CHECK(count == widths[i].due && kept(0));
-    }
-    // an order is not looked at, be it a permutation or not; a malformed record is not measured
-    image[281] = 1;
+}
+
+// A number at each place, on either side of each width: 0 and the defaults of the others are not due.
+static void number_lengths(void)
+{
+    static const struct { uint64_t number; size_t due; } widths[] = {
+        { 63, 3 }, { 64, 4 }, { 16383, 4 }, { 16384, 6 }, { 1073741823, 6 }, { 1073741824, 10 }, { BOUND - 1, 10 },
+    };
+    uint8_t image[RECORD];
+    default_record(image);
     ACCEPTS(yuthpram_length(image, RECORD, &count));
-    CHECK(count == 10);
+    CHECK(count == 0 && kept(0));
+    for (size_t place = 0; place < 11; place++)
+        for (size_t i = 0; i < sizeof widths / sizeof *widths; i++) {
+            default_record(image);
+            put(image, 8 * place, widths[i].number);
+            ACCEPTS(yuthpram_length(image, RECORD, &count));
+            CHECK(count == widths[i].due && kept(0));
+        }
+}
+
+// Whether an order is a permutation is not looked at; a malformed record is not measured.
+static void order_lengths(void)
+{
+    uint8_t image[RECORD + 1] = { 0 };
+    default_record(image);
+    put(image, 0, 64);
+    image[281] = 1;
+    REFUSES(6, yuthpram_write(image, RECORD, out, sizeof out, &count));
+    ACCEPTS(yuthpram_length(image, RECORD, &count));
+    CHECK(count == 4);
     backwards(image + 282);
     ACCEPTS(yuthpram_length(image, RECORD, &count));
-    CHECK(count == 10);
+    CHECK(count == 4);
     image[281] = 0;
     REFUSES(7, yuthpram_length(image, RECORD, &count));
     default_record(image);
@@ -296,6 +314,7 @@ static void lengths(void)
     default_record(image);
     REFUSES(7, yuthpram_length(image, RECORD - 1, &count));
     REFUSES(7, yuthpram_length(image, RECORD + 1, &count));
+    REFUSES(7, yuthpram_length(NULL, 0, &count));
 }
 
 static void tidying(void)
@@ -429,7 +448,6 @@ static void nothing(void)
     REFUSES(5, yuthpram_read(YUTHPRAM_SERVER, src, 3, NULL, 0));
     REFUSES(6, yuthpram_check_order(NULL, 0));
     REFUSES(7, yuthpram_write(NULL, 0, out, sizeof out, &count));
-    REFUSES(7, yuthpram_length(NULL, 0, &count));
     ACCEPTS(yuthpram_write(image, RECORD, NULL, 0, &count));
     CHECK(count == 0);
     put(image, 0, 5);
@@ -481,7 +499,9 @@ int main(void)
     reading();
     orders();
     writing();
-    lengths();
+    field_lengths();
+    number_lengths();
+    order_lengths();
     tidying();
     building();
     not_building();

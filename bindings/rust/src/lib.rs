@@ -182,7 +182,8 @@ impl TransportParameters {
     /// let mut params = TransportParameters { grease_quic_bit: true, ..Default::default() };
     /// let mut room = vec![0; params.length()];
     /// params.write_order = Some(std::array::from_fn(|i| 20 - i as u8));
-    /// assert_eq!(params.write(&mut room)?, 3);
+    /// assert_eq!(params.write(&mut room)?, room.len());
+    /// assert_eq!(room, [0x6a, 0xb2, 0x00]);
     /// # Ok::<(), yuthpram::Error>(())
     /// ```
     pub fn length(&self) -> usize {

@@ -8,14 +8,13 @@ use mathlib.Core.Option.{none}
 use mathlib.Core.Bool.{Bool, true, false}
 use lib.ListN.{length}
 use lib.Dec.{ltb}
-use borrow.Author.Tests.{ltb-true, ltb-false, eq-eqb, ne-eqb, eqb-true}
+use borrow.Author.Tests.{ltb-true, ltb-false, eq-eqb, ne-eqb}
 use Rattle.refusal.specs.Outcome.{accepted, pick}
-use Rattle.refusal.proofs.Laws.{all-at}
 use Rattle.catalogue.specs.Catalogue.{places}
 use Rattle.record.specs.Values.{Values, noValues, upd}
 use Rattle.reader.specs.Reading.{parse}
 use Rattle.reader.proofs.Run.{parse-nil, upd-at}
-use Rattle.order.specs.Order.{member, distinct, permutation}
+use Rattle.order.specs.Order.{member, distinct}
 use Rattle.writer.specs.Writing.{concatOf}
 use Rattle.order.proofs.Orders.{first, full}
 

@@ -2,10 +2,12 @@
 --     sum-le     a sum of smaller terms is smaller
 --     sum-eq     a sum of the same terms is the same
 --     sum-but    a sum with one term replaced
+--     sum-more   a sum with one term more
 use Prim.Native.Nat.{ℕ, zero, suc, _+_, _≤_, _<_}
 use mathlib.Core.Path.{_≡_, refl, ap}
 use mathlib.Core.Bool.{Bool, true, false}
 use native.Mathlib.Omega.{arith}
+use native.Mathlib.Numerals.{add-one}
 use lib.Dec.{eqb}
 use borrow.Author.Tests.{ne-eqb, eqb-true, eqb-false}
 use Rattle.refusal.specs.Outcome.{pick}
@@ -37,3 +39,7 @@ sum-but (suc n) f p x h = go (eqb n p) refl (sum-but n f p x)
         let j : f n ≡ f p = ap f i in
         omega arith
     go false e ih = let j = eqb-false n p e in omega (arith, ih (omega arith))
+
+pub sum-more : (f : ℕ → ℕ) (p n m : ℕ) → n ≡ sum p f → m ≡ f p → n + m ≡ sum (p + 1) f
+unfolding sum
+sum-more f p n m e g = rw (e, g, add-one p)

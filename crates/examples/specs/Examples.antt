@@ -1,4 +1,4 @@
--- The worked examples (a) to (n): for each a side, an operation, its input and the outcome. The definitions are those that the contracts
+-- The worked examples (a) to (n), and some lengths: for each a side, an operation, its input and the outcome. The definitions are those that the contracts
 -- of reading, tidying, writing and the length cite.
 use Prim.Native.Nat.{ℕ}
 use mathlib.Core.Path.{_≡_}

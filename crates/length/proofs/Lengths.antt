@@ -7,7 +7,6 @@ use mathlib.Core.List.{List, []}
 use mathlib.Core.Option.{none, some}
 use mathlib.Core.Bool.{Bool, true, false, not}
 use native.Mathlib.Omega.{arith}
-use native.Mathlib.Numerals.{add-one}
 use lib.ListN.{length, getD, take, length-append}
 use lib.Seq.{length-take-le}
 use lib.Dec.{eqb}
@@ -40,11 +39,6 @@ not-due id n = (refl, omega arith)
 pub is-due : (id n a b : ℕ) → n < 512 → a ≡ length (numberBytes id) → b ≡ length (numberBytes n) → (a + b + n ≡ valueLength true id n) × (a + b + n < 1024)
 unfolding valueLength
 is-due id n a b h e f = (rw (e, f), omega (arith, number-size id, number-size n))
-
--- and for one place more
-pub sum-more : (f : ℕ → ℕ) (p n m : ℕ) → n ≡ sum p f → m ≡ f p → n + m ≡ sum (p + 1) f
-unfolding sum
-sum-more f p n m e g = rw (e, g, add-one p)
 
 -- a value that is sent if something holds
 value-length : (id n : ℕ) (due : Bool) (v : List ℕ) → length v ≡ n → length (parameterIf id (pick due (some v) none)) ≡ valueLength due id n

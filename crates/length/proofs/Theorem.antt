@@ -46,19 +46,25 @@ module _ (r : TransportParameters) (n : ℕ) (h : lengthOf r ≡ accepted n) whe
   unfolding write
   held p out = rw (is .0, p)
 
-  -- in an order that is drawn
-  module _ (os : List ℕ) (p : permutation os ≡ true) where
-    as-many : length os ≡ places
-    unfolding permutation
-    as-many = eqb-true _ _ (all-at _ p 0)
-
+  -- with another order
+  module _ (os : List ℕ) (l : length os ≡ places) where
     ordered : formedOrder (orderFrom true os) ≡ true
     unfolding formedOrder all
-    ordered = rw (eq-eqb (length os) places as-many)
+    ordered = rw (eq-eqb (length os) places l)
 
     still-formed : wellFormed (drawn r os) ≡ true
     unfolding wellFormed drawn
     still-formed = all-last (_ ∷ _ ∷ _ ∷ _ ∷ _ ∷ _ ∷ _ ∷ _ ∷ _ ∷ _ ∷ []) _ _ (is .0) ordered
+
+    same-length : lengthOf (drawn r os) ≡ accepted n
+    unfolding lengthOf drawn parameterAt valuesOf otherValues
+    same-length = rw still-formed (ap accepted (is .1))
+
+  -- which is drawn
+  module _ (os : List ℕ) (p : permutation os ≡ true) where
+    as-many : length os ≡ places
+    unfolding permutation
+    as-many = eqb-true _ _ (all-at _ p 0)
 
     same : extension (drawn r os) os ≡ extension r os
     unfolding extension drawn parameterAt valuesOf otherValues
@@ -66,9 +72,9 @@ module _ (r : TransportParameters) (n : ℕ) (h : lengthOf r ≡ accepted n) whe
 
     later : (out : List ℕ) → write (drawn r os) out ≡ store (extension r os) out
     unfolding write orderOf drawn
-    later out = rw (still-formed, p) (ap (λ x. store x out) same)
+    later out = rw (still-formed os as-many, p) (ap (λ x. store x out) same)
 
-  pub at-most : n ≤ maxExtension
+  at-most : n ≤ maxExtension
   at-most = omega (arith, as-long catalogueOrder in-catalogue, longest r catalogueOrder (is .0) in-catalogue)
 
 -- what writing counted
@@ -119,6 +125,7 @@ measure =
       tooShortHeld = λ r out n h p. too-short _ out n _ (as-long r n h (orderOf (r .«write_order»)) p) (held r n h p out);
       counted = was-counted;
       illFormed = ill-formed;
+      anyOrder = λ r os n h l. same-length r n h os l;
       atMost = at-most;
     }
 

@@ -6,6 +6,7 @@ use mathlib.Core.Logic.{_↔_}
 use mathlib.Core.Bool.{true}
 use lib.ListN.{length}
 use Rattle.refusal.specs.Outcome.{accepted, refused, front}
+use Rattle.catalogue.specs.Catalogue.{places}
 use Rattle.record.specs.declared.TransportParameters.{TransportParameters}
 use Rattle.record.specs.Fields.{orderFrom}
 use Rattle.order.specs.Order.{permutation}
@@ -48,5 +49,7 @@ pub record Measure : Type 0 where
   pub counted : (r : TransportParameters) (out out′ : List ℕ) (n : ℕ) → write r out ≡ (accepted n, out′) → lengthOf r ≡ accepted n
   -- 7 by the one exactly if by the other
   pub illFormed : (r : TransportParameters) (out : List ℕ) → (lengthOf r ≡ refused 7) ↔ (write r out ≡ (refused 7, out))
+  -- an order is not tested: any 21 places leave the length as it is
+  pub anyOrder : (r : TransportParameters) (os : List ℕ) (n : ℕ) → lengthOf r ≡ accepted n → length os ≡ places → lengthOf (drawn r os) ≡ accepted n
   -- nothing is longer than the longest extension
   pub atMost : (r : TransportParameters) (n : ℕ) → lengthOf r ≡ accepted n → n ≤ maxExtension

@@ -1,5 +1,6 @@
 -- Laws of storing bytes at the front of a buffer. Assumes nothing.
 --     not-refused     no answer is both accepted and refused
+--     refused-same    nor refused by two numbers
 --     stored-front    the bytes stand at the front
 --     store-fits      they are stored where there is room
 --     store-short     and refused by 5 exactly where there is not

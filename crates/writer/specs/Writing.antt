@@ -44,6 +44,6 @@ write r out =
     (pick (permutation (orderOf (r .«write_order»))) (store (extension r (orderOf (r .«write_order»))) out) (refused 6, out))
     (refused 7, out)
 
--- the length of a record: its parameters due, added up in catalogue order; 7 if it is not well formed. Its order is not looked at
+-- the length of a record: its parameters due, added up in catalogue order, whether or not its own order is a permutation; 7 if it is not well formed
 unfoldable pub lengthOf : TransportParameters → Outcome ℕ
 lengthOf r = pick (wellFormed r) (accepted (sum places (λ p. length (parameterAt r p)))) (refused 7)

@@ -4,8 +4,8 @@ use native.Mathlib.Omega.{arith}
 use mathlib.Core.Path.{_≡_, refl}
 use Rattle.catalogue.specs.Catalogue.{ids, idAt, defaults}
 use Rattle.catalogue.specs.Sum.{sum}
+use Rattle.catalogue.proofs.Sums.{sum-more}
 use Rattle.length.specs.Length.{numberLengthAt}
-use Rattle.length.proofs.Lengths.{sum-more}
 use borrow.Author.Needs.{needs}
 use Rattle.length.proofs.numbers_length.Statement.{statement}
 use Rattle.length.proofs.numbers_length.Tie as tie
