@@ -20,8 +20,9 @@ put-there c = whole-laid _ _ (replicate 314 0) [] _ [] (c .before .before .befor
 returns : tie.Need-returns
 returns c =
     let s = c .before .before .before .before .before .before .before in
-    let w = whole-laid _ _ (s .args .out .now) [] _ [] (s .pre .1) (c .before .before .before .before .if1 .taken) (c .before .before .put-all .ensures) .wrote in
-    stored-whole _ _ _ (s .args .out .now) _ (omega (arith, s .pre .1, c .before .before .before .before .if1 .taken)) w
+    let room : 314 ≤ length (s .args .out .now) = omega (arith, c .before .before .before .before .if1 .taken) in
+    let w = whole-laid _ _ (s .args .out .now) [] _ [] (s .pre .1) room (c .before .before .put-all .ensures) .wrote in
+    stored-whole _ _ _ (s .args .out .now) _ (omega (arith, s .pre .1)) w
 
 returns-2 : tie.Need-returns-2
 returns-2 c = stored-short _ (c .before .before .before .before .before .before .before .args .out .now) (omega (arith, put-there (c .before .before) .count))
