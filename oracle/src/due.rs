@@ -1,15 +1,53 @@
-//! The answer that is due to a case: quinn's; where quinn has none, the one that document 01 gives.
+//! The answer that is due to a case: quinn's; where quinn has none, or parts from the product, the one that document 01 or 02 gives.
 
 use crate::{
     answer::{Answer, Case, Op},
+    coding::BufExt,
     image::CATALOGUE_ORDER,
     rust,
 };
 
-/// Whether the case is put to quinn. The order test has no counterpart there, nor have calls on which the Rust panics or that its types rule
-/// out.
-pub fn by_quinn(c: &Case) -> bool {
-    c.declined == 0 && c.op != Op::CheckOrder
+/// Who says what is due to a case.
+#[derive(Clone, Copy)]
+pub enum By {
+    Quinn,
+    /// The order test has no counterpart in quinn, nor have calls on which the Rust panics or that its types rule out.
+    Document01,
+    /// Request 02, where quinn is not asked: the extension has a second grease_quic_bit or min_ack_delay, which starts here.
+    Request02(usize),
+}
+
+impl By {
+    /// The request that parts product and quinn here; 0 if none does.
+    pub fn request(self) -> u8 {
+        if let By::Request02(_) = self { 2 } else { 0 }
+    }
+}
+
+pub fn by(c: &Case) -> By {
+    if c.declined != 0 || c.op == Op::CheckOrder {
+        return By::Document01;
+    }
+    let extension = matches!(c.op, Op::Read | Op::Tidy | Op::TidyTwice);
+    second_copy(c.x).filter(|_| extension).map_or(By::Quinn, By::Request02)
+}
+
+/// Where the second grease_quic_bit or min_ack_delay starts, of the two that quinn lets repeat. Only whole parameters count: what is cut
+/// quinn refuses too.
+fn second_copy(x: &[u8]) -> Option<usize> {
+    let mut met = [false; 2];
+    let mut rest = x;
+    loop {
+        let start = x.len() - rest.len();
+        let (id, len) = (rest.get_var().ok()?, rest.get_var().ok()?);
+        rest = rest.get(usize::try_from(len).ok()?..)?;
+        if let Some(i) = [0x2ab2, 0xff04de1b].iter().position(|known| *known == id) {
+            if met[i] {
+                return Some(start);
+            }
+            met[i] = true;
+        }
+    }
 }
 
 /// Document 01: an order is a permutation of 0 to 20.
@@ -27,8 +65,22 @@ fn by_document(c: &Case) -> Answer {
     Answer::refused(if c.op == Op::CheckOrder { check_order(c.x) } else { c.declined })
 }
 
+/// Request 02: a second copy is 1, whatever its value and whatever follows, unless a parameter before it is at fault. So is an identifier that
+/// cannot be read, which quinn finds where the second copy starts.
+fn by_request_02(c: &Case, start: usize) -> Answer {
+    rust::answer(&Case { x: &[&c.x[..start], &[0x40]].concat(), ..*c })
+}
+
 /// 5 if the output is shorter than the bytes due.
-pub fn answer(c: &Case) -> Answer {
-    let a = if by_quinn(c) { rust::answer(c) } else { by_document(c) };
+pub fn answer_by(by: By, c: &Case) -> Answer {
+    let a = match by {
+        By::Quinn => rust::answer(c),
+        By::Document01 => by_document(c),
+        By::Request02(start) => by_request_02(c, start),
+    };
     if c.room < a.len { Answer::refused(5) } else { a }
+}
+
+pub fn answer(c: &Case) -> Answer {
+    answer_by(by(c), c)
 }

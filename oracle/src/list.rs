@@ -1,4 +1,5 @@
-//! The recorded list: some thousands of cases with quinn's answers, which crates/replay runs in the gate.
+//! The recorded list: some thousands of cases with the answers due, quinn's but where the head says otherwise, which crates/replay runs in the
+//! gate.
 //!
 //! Each entry is a head of 32 bytes and then x, y, z, w and the bytes due, one behind the other; all numbers have the high byte first.
 //!
@@ -8,7 +9,8 @@
 //! | 1 | refusal due, or 0 |
 //! | 2, 4, 6, 8, 10 | where x, y, z, w and the bytes due end, counted from the head's end |
 //! | 12 | length of the output |
-//! | 14 | 0, and the refusal again if the Rust has no answer, else 0 |
+//! | 14 | the request of document 02 that gives the answer, quinn having another; else 0 |
+//! | 15 | the refusal again if the Rust has no answer, else 0 |
 //! | 16 | number of the case (eight bytes) |
 //! | 24 | number due (eight bytes) |
 //!
@@ -152,7 +154,8 @@ impl Suite<'_> {
 }
 
 fn entry(c: &Case) -> Vec<u8> {
-    let a = due::answer(c);
+    let by = due::by(c);
+    let a = due::answer_by(by, c);
     let parts = [c.x, c.y, c.z, c.w, a.due()];
     let mut out = vec![c.op as u8, a.code];
     let mut end = 0;
@@ -161,7 +164,7 @@ fn entry(c: &Case) -> Vec<u8> {
         out.extend((end as u16).to_be_bytes());
     }
     out.extend((c.room as u16).to_be_bytes());
-    out.extend([0, c.declined]);
+    out.extend([by.request(), c.declined]);
     out.extend(c.number.to_be_bytes());
     out.extend(a.number.to_be_bytes());
     out.extend(parts.concat());
@@ -194,7 +197,7 @@ pub fn record() {
         (2, |s| s.resumption(112)),
         (3, |s| s.declined(34)),
     ];
-    let (mut entries, mut bytes) = (0, 0);
+    let (mut entries, mut bytes, mut requested) = (0, 0, 0);
     for (step, part) in parts {
         let mut turn = 0;
         let mut sink = |c: &Case| {
@@ -203,12 +206,13 @@ pub fn record() {
                 stdout().write_all(&e).unwrap();
                 entries += 1;
                 bytes += e.len();
+                requested += (e[14] != 0) as usize;
             }
             turn += 1;
         };
         part(&mut Suite { d: Dice(SEED), sink: &mut sink });
     }
-    eprintln!("{entries} cases, {bytes} bytes");
+    eprintln!("{entries} cases, {requested} of them by request 02, {bytes} bytes");
 }
 
 /// Takes every case of a recorded list again: the answer due and the library's must both be what was recorded.
@@ -240,7 +244,7 @@ pub fn replay() {
         library += !library::call(&c).is(&recorded) as u64;
         at += 32 + ends[5];
     }
-    println!("{cases} recorded cases: quinn (or document 01) differs in {due}, the library in {library}");
+    println!("{cases} recorded cases: quinn (or document 01 or 02) differs in {due}, the library in {library}");
     if due + library > 0 {
         std::process::exit(1);
     }

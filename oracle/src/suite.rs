@@ -284,7 +284,7 @@ impl Suite<'_> {
                 let mask = inputs::mask(&mut self.d);
                 x = inputs::extension(&mut self.d, mask);
             }
-            if TransportParameters::read(rust::side(0), &mut &x[..]).is_ok() {
+            if due::answer(&Case::new(Op::Read, 0, &x, RECORD)).code == 0 {
                 return x;
             }
         }
@@ -338,11 +338,18 @@ impl Suite<'_> {
             "c0000000ff04de1b04800061a8",
             "c0000000ff04de1b04800061a9",
             "6ab200010480007530",
-            // second copies that are accepted: grease_quic_bit, min_ack_delay, unknown ones
+            // second copies: of grease_quic_bit and min_ack_delay, refused by request 02; of an unknown parameter, accepted
             "6ab2006ab200",
             "c0000000ff04de1b0105c0000000ff04de1b0106",
             "c0000000ff04de1b0106c0000000ff04de1b0105",
             "1b001b00",
+            // before a cut; with a value that does not fit; behind an illegal value, which would be found later; before and behind an address
+            // with no family
+            "6ab2006ab20001",
+            "6ab2006ab20105",
+            "0a01156ab2006ab200",
+            &("6ab2006ab200".to_owned() + &address(0, 1, "")),
+            &(address(0, 1, "") + "6ab2006ab200"),
             // addresses: no family; no family and a byte more; no family after a good one; an empty ID; beside an empty initial_src_cid
             &address(0, 1, ""),
             &address(0, 1, "00"),

@@ -206,6 +206,43 @@ static void reading(void)
     REFUSES(5, yuthpram_read(0, src, sizeof src, out, RECORD - 1));
 }
 
+// A parameter with a value of one byte over and over.
+static size_t parameter(uint8_t *at, const uint8_t *id, size_t id_len, uint8_t byte, size_t len)
+{
+    memcpy(at, id, id_len);
+    at[id_len] = (uint8_t)len;
+    memset(at + id_len + 1, byte, len);
+    return id_len + 1 + len;
+}
+
+// Each known parameter is accepted once and refused the second time, also with a value that does not fit or has no family, and before a cut.
+static void second_copies(void)
+{
+    static const struct { size_t id_len; uint8_t id[8], byte; size_t len; } known[] = {
+        { 1, { 0x01 }, 2, 1 },    { 1, { 0x03 }, 0xc1, 8 }, { 1, { 0x04 }, 2, 1 },  { 1, { 0x05 }, 2, 1 },       { 1, { 0x06 }, 2, 1 },
+        { 1, { 0x07 }, 2, 1 },    { 1, { 0x08 }, 2, 1 },    { 1, { 0x09 }, 2, 1 },  { 1, { 0x0a }, 2, 1 },       { 1, { 0x0b }, 2, 1 },
+        { 1, { 0x0e }, 2, 1 },    { 1, { 0x02 }, 9, 16 },   { 1, { 0x0c }, 0, 0 },  { 1, { 0x20 }, 2, 1 },       { 1, { 0x0d }, 1, 42 },
+        { 1, { 0x00 }, 7, 20 },   { 1, { 0x0f }, 7, 1 },    { 1, { 0x10 }, 7, 0 },  { 2, { 0x6a, 0xb2 }, 0, 0 },
+        { 8, { 0xc0, 0, 0, 0, 0xff, 0x04, 0xde, 0x1b }, 2, 1 },
+    };
+    CHECK(sizeof known / sizeof *known == 20);
+    for (size_t i = 0; i < sizeof known / sizeof *known; i++) {
+        uint8_t src[128];
+        size_t id_len = known[i].id_len, n = parameter(src, known[i].id, id_len, known[i].byte, known[i].len);
+        ACCEPTS(yuthpram_read(YUTHPRAM_CLIENT, src, n, out, RECORD));
+        for (size_t len = 0; len <= 42; len += 42) {
+            size_t end = n + parameter(src + n, known[i].id, id_len, 0, len);
+            REFUSES(1, yuthpram_read(YUTHPRAM_CLIENT, src, end, out, RECORD));
+            REFUSES(1, yuthpram_tidy(YUTHPRAM_CLIENT, src, end, out, sizeof out, &count));
+        }
+        size_t end = n + parameter(src + n, known[i].id, id_len, known[i].byte, known[i].len);
+        src[end] = 1;
+        REFUSES(1, yuthpram_read(YUTHPRAM_CLIENT, src, end, out, RECORD));
+        REFUSES(1, yuthpram_read(YUTHPRAM_CLIENT, src, end + 1, out, RECORD));
+        REFUSES(1, yuthpram_tidy(YUTHPRAM_CLIENT, src, end, out, sizeof out, &count));
+    }
+}
+
 // A permutation of the places: the last place first.
 static void backwards(uint8_t *order)
 {
@@ -497,6 +534,7 @@ int main(void)
     defaults();
     checking();
     reading();
+    second_copies();
     orders();
     writing();
     field_lengths();

@@ -149,6 +149,9 @@ impl TransportParameters {
     /// // original_dst_cid: only a server sends it, so only a client may read it.
     /// assert!(TransportParameters::read(Side::Client, &[0x00, 0x00]).is_ok());
     /// assert_eq!(TransportParameters::read(Side::Server, &[0x00, 0x00]), Err(Error::IllegalValue));
+    /// // grease_quic_bit; a second copy is refused, as that of every known parameter is.
+    /// assert!(TransportParameters::read(Side::Client, &[0x6a, 0xb2, 0x00]).is_ok());
+    /// assert_eq!(TransportParameters::read(Side::Client, &[0x6a, 0xb2, 0x00, 0x6a, 0xb2, 0x00]), Err(Error::Malformed));
     /// ```
     pub fn read(side: Side, src: &[u8]) -> Result<Self, Error> {
         let mut image = [0; ffi::RECORD_SIZE];

@@ -9,7 +9,6 @@ use Rattle.record.specs.Values.{noValues, upd, numberIn, numberOut, optionalIn,
 use Rattle.record.specs.Record.{formedOptional, formedOptionalCid, formedToken, formedOptionalToken, formedFamily, formedAddress, formedReserved, formedOrder, wellFormed, bare}
 use Rattle.rules.specs.Rules.{numberRules, presenceRules, valueRules}
 use Rattle.front.specs.Parameter.{readParameter}
-use Rattle.value.specs.Value.{mayRepeat}
 use Rattle.reader.specs.Reading.{receive, step, parse, judge, read}
 use Rattle.writer.specs.Writing.{reservedBytes, parameterAt, extension, orderOf, write, lengthOf}
 use Rattle.order.specs.Order.{permutation, catalogueOrder}
@@ -17,5 +16,5 @@ use Rattle.tidy.specs.Tidying.{tidy}
 use Rattle.examples.specs.Examples.{Each, with, examples}
 
 pub hold : Each examples
-unfolding all front store readNumber form tagOf cidOf formedCid ids defaults otherKinds kinds kindAt idAt placeOf fits illegal parameter noValues upd numberIn numberOut optionalIn optionalOut flagOut cidIn cidOut tokenIn tokenOut familyIn familyOut addressIn addressOut noReserved noOrder recordOf otherValues valuesOf formedOptional formedOptionalCid formedToken formedOptionalToken formedFamily formedAddress formedReserved formedOrder wellFormed numberRules presenceRules valueRules bare mayRepeat readParameter receive step parse judge read reservedBytes parameterAt extension permutation catalogueOrder orderOf write lengthOf sum tidy with examples
-hold = (refl, (refl, (refl, (refl, (refl, (refl, (refl, (refl, (refl, (refl, (refl, (refl, (refl, (refl, (refl, (refl, (refl, (refl, (refl, (refl, (refl, tt)))))))))))))))))))))
+unfolding all front store readNumber form tagOf cidOf formedCid ids defaults otherKinds kinds kindAt idAt placeOf fits illegal parameter noValues upd numberIn numberOut optionalIn optionalOut flagOut cidIn cidOut tokenIn tokenOut familyIn familyOut addressIn addressOut noReserved noOrder recordOf otherValues valuesOf formedOptional formedOptionalCid formedToken formedOptionalToken formedFamily formedAddress formedReserved formedOrder wellFormed numberRules presenceRules valueRules bare readParameter receive step parse judge read reservedBytes parameterAt extension permutation catalogueOrder orderOf write lengthOf sum tidy with examples
+hold = (refl, (refl, (refl, (refl, (refl, (refl, (refl, (refl, (refl, (refl, (refl, (refl, (refl, (refl, (refl, (refl, (refl, (refl, (refl, (refl, (refl, (refl, (refl, (refl, (refl, (refl, tt))))))))))))))))))))))))))

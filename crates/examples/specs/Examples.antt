@@ -1,8 +1,8 @@
--- The worked examples (a) to (n), and some lengths: for each a side, an operation, its input and the outcome. The definitions are those that the contracts
+-- The worked examples (a) to (n), some lengths and second copies: for each a side, an operation, its input and the outcome. The definitions are those that the contracts
 -- of reading, tidying, writing and the length cite.
 use Prim.Native.Nat.{ℕ}
 use mathlib.Core.Path.{_≡_}
-use mathlib.Core.List.{List, [], _∷_}
+use mathlib.Core.List.{List, [], _∷_, _++_}
 use mathlib.Core.Bool.{Bool, true, false}
 use lib.ListN.{length, replicate}
 use Rattle.refusal.specs.Outcome.{Outcome, accepted, refused}
@@ -84,6 +84,13 @@ reversed =
 abbrev pub nowhere : WriteOrder
 nowhere = record { present = true; places = replicate 21 0 }
 
+-- min_ack_delay of a byte; a preferred address, with families of this byte
+abbrev pub delayed : ℕ → List ℕ
+delayed x = 0xc0 ∷ 0x00 ∷ 0x00 ∷ 0x00 ∷ 0xff ∷ 0x04 ∷ 0xde ∷ 0x1b ∷ 0x01 ∷ x ∷ []
+
+abbrev pub addressed : ℕ → List ℕ
+addressed x = 0x0d ∷ 0x2a ∷ (replicate 24 x ++ (0x01 ∷ 0xaa ∷ replicate 16 0xbb))
+
 unfoldable pub examples : List Example
 examples =
     -- (a)
@@ -123,4 +130,10 @@ examples =
     ∷ measuring (with (numbers 30000 65527 25) false true Absent nowhere) (accepted 9)
     ∷ measuring defaultRecord (accepted 0)
     ∷ measuring (plain (numbers bound 65527 25)) (refused 7)
+    ∷  -- second copies (request 02): grease_quic_bit, min_ack_delay, and a preferred address that would be 2 by itself; unknown ones are skipped
+    reading Client (0x6a ∷ 0xb2 ∷ 0x00 ∷ 0x6a ∷ 0xb2 ∷ 0x00 ∷ []) (refused 1)
+    ∷ reading Client (delayed 5 ++ delayed 6) (refused 1)
+    ∷ reading Client (addressed 1 ++ addressed 0) (refused 1)
+    ∷ reading Client (addressed 0) (refused 2)
+    ∷ reading Client (0x1b ∷ 0x00 ∷ 0x1b ∷ 0x00 ∷ []) (accepted defaultRecord)
     ∷ []

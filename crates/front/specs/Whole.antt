@@ -1,5 +1,5 @@
 -- Extensions put together from whole parameters.
-use Prim.Native.Nat.{ℕ, _≤_}
+use Prim.Native.Nat.{ℕ, _≤_, _<_}
 use mathlib.Core.Path.{_≡_}
 use mathlib.Core.List.{List, [], _∷_, _++_}
 use Rattle.refusal.specs.Outcome.{accepted}
@@ -40,3 +40,12 @@ pub record Stuffed (e e′ : List ℕ) : Type 0 where
   pub is : concat ws ≡ e
   pub is′ : concat ws′ ≡ e′
   pub put : Inserted ws ws′
+
+-- whole parameters a, then w, then b; and a second copy u of w, which is a known one. Its value may be any
+pub record Repeated (a w b u : List ℕ) : Type 0 where
+  pub before : Composed a
+  pub first : Whole w
+  pub between : Composed b
+  pub second : Whole u
+  pub same : second .id ≡ first .id
+  pub known : placeOf (first .id) < places

@@ -12,7 +12,7 @@ use varint::VarInt;
 pub enum Fault {
     // an identifier or length that cannot be read, or a length beyond what is left
     Cut,
-    // a second copy of a parameter that may not repeat
+    // a second copy of a known parameter
     SecondCopy,
     // a value that does not fit or fill its length, or a connection ID of over 20 bytes
     Misfit,

@@ -5,7 +5,7 @@ use Prim.Native.Nat.{ℕ, zero, suc, _+_, _-_, _%_, _≤_, _<_}
 use mathlib.Core.Path.{_≡_, refl, ap, sym, _∙_, subst}
 use mathlib.Core.List.{List, [], _∷_}
 use mathlib.Core.Option.{Option, none, some}
-use mathlib.Core.Bool.{Bool, true, false, _&&_, not}
+use mathlib.Core.Bool.{Bool, true, false}
 use native.Mathlib.Omega.{arith}
 use lib.ListN.{length, getD, take, drop, set, length-drop, drop-of-length-le}
 use lib.Seq.{getD-set-same, getD-set-other}
@@ -20,7 +20,7 @@ use Rattle.front.specs.declared.Fault.{Fault}
 use Rattle.front.specs.declared.Fault.the-variants.{SecondCopy, Misfit, Illegal}
 use Rattle.front.specs.Parameter.{readParameter, located}
 use Rattle.front.proofs.Position.{within, cutOut, located-front}
-use Rattle.value.specs.Value.{mayRepeat, keptOf, checkKind, receiveValue}
+use Rattle.value.specs.Value.{keptOf, checkKind, receiveValue}
 use Rattle.value.proofs.Checks.{taken}
 use Rattle.index.specs.Index.{Found, nothing, keep, note, between, indexIn, indexFrom, Sound}
 use Rattle.index.proofs.Sound.{initial-at, start-sound, keep-sound, start-kept, length-kept}
@@ -109,7 +109,7 @@ module _ (s : List ℕ) (a e : ℕ) (ae : a ≤ e) (el : e ≤ length s) (f : Fo
 -- receiving a value, by what is kept of it
 receive-open : (l : Values) (p a : ℕ) (v : List ℕ) → receive l p v ≡ andThen (receiveValue (isSome (l p)) p a v) (λ x. accepted (upd l p (some v)))
 unfolding receive receiveValue checkKind
-receive-open l p a v = go (isSome (l p) && not (mayRepeat p)) (illegal (kindAt p) v) (fits (kindAt p) v)
+receive-open l p a v = go (isSome (l p)) (illegal (kindAt p) v) (fits (kindAt p) v)
   where
     go : (t i c : Bool)
         → pick {A = Result Fault Values} t (refused SecondCopy) (pick i (refused Illegal) (pick c (accepted (upd l p (some v))) (refused Misfit)))

@@ -4,25 +4,23 @@ use Prim.Native.Nat.{ℕ, zero, suc, _+_, _≤_, _<_}
 use mathlib.Core.Path.{_≡_, refl}
 use mathlib.Core.List.{List, [], _∷_}
 use mathlib.Core.Option.{some}
-use mathlib.Core.Bool.{Bool, true, false, _&&_, not}
+use mathlib.Core.Bool.{Bool, true, false}
 use native.Mathlib.Omega.{arith}
 use lib.ListN.{length}
-use lib.Dec.{ltb, eqb}
-use borrow.Author.Tests.{ltb-true, eqb-true}
-use Rattle.refusal.specs.Outcome.{Result, accepted, refused, pick}
+use lib.Dec.{eqb}
+use borrow.Author.Tests.{eqb-true}
+use Rattle.refusal.specs.Outcome.{accepted, pick}
 use Rattle.refusal.proofs.Laws.{inverted}
-use Rattle.catalogue.specs.Catalogue.{places, placeOf, idAt, kindAt, fits, illegal, parameter, parameterIf}
-use Rattle.record.specs.Values.{Bytes, Values, noValues, isSome, upd}
+use Rattle.catalogue.specs.Catalogue.{places, placeOf, idAt, kindAt, parameter, parameterIf}
+use Rattle.record.specs.Values.{Bytes, Values, noValues, upd}
 use Rattle.catalogue.specs.Sum.{sum}
 use Rattle.catalogue.proofs.Sums.{but, sum-eq, sum-but}
 use Rattle.record.proofs.KindLaws.{Fits, IfSome}
 use Rattle.catalogue.proofs.Places.{id-of-place}
 use Rattle.record.proofs.Records.{Good, sizeAt}
-use Rattle.front.specs.declared.Fault.{Fault}
-use Rattle.front.specs.declared.Fault.the-variants.{SecondCopy, Misfit, Illegal}
 use Rattle.front.specs.Parameter.{readParameter}
-use Rattle.value.specs.Value.{mayRepeat}
-use Rattle.reader.specs.Reading.{receive, step, parseIn, parse}
+use Rattle.reader.specs.Reading.{step, parseIn, parse}
+use Rattle.reader.proofs.Run.{stepped}
 use Rattle.reader.proofs.Sized.{sized}
 
 -- the bytes of the values of all places, in their shortest form
@@ -49,23 +47,9 @@ upd-good l p v g f q = go (eqb q p) refl
     go false h = g q
 
 step-good : (l l′ : Values) (id : ℕ) (v : List ℕ) → Good l → Bytes v → step l id v ≡ accepted l′ → Good l′ × (total l′ ≤ total l + length (parameter id v))
-unfolding step receive
-step-good l l′ id v g hb e = go (ltb (placeOf id) places) refl e
-  where
-    at : (a b c : Bool) → placeOf id < places → illegal (kindAt (placeOf id)) v ≡ b → fits (kindAt (placeOf id)) v ≡ c
-        → pick {A = Result Fault Values} a (refused SecondCopy) (pick b (refused Illegal) (pick c (accepted (upd l (placeOf id) (some v))) (refused Misfit))) ≡ accepted l′
-        → Good l′ × (total l′ ≤ total l + length (parameter id v))
-    at false false true h x y e =
-        let i : upd l (placeOf id) (some v) ≡ l′ = cc in
-        rw (← i) (upd-good l (placeOf id) v g (record { legal = x; fit = y; bytes = hb }), rw (id-of-place id h) at (upd-total l (placeOf id) v h))
-    at false false false h x y e = let z : _≡_ {A = ℕ} 0 1 = cc in absurd (omega arith)
-    at false true c h x y e = let z : _≡_ {A = ℕ} 0 1 = cc in absurd (omega arith)
-    at true b c h x y e = let z : _≡_ {A = ℕ} 0 1 = cc in absurd (omega arith)
-
-    go : (b : Bool) → ltb (placeOf id) places ≡ b → pick {A = Result Fault Values} b (receive l (placeOf id) v) (accepted l) ≡ accepted l′
-        → Good l′ × (total l′ ≤ total l + length (parameter id v))
-    go true h e = at (isSome (l (placeOf id)) && not (mayRepeat (placeOf id))) (illegal (kindAt (placeOf id)) v) (fits (kindAt (placeOf id)) v) (ltb-true _ _ h) refl refl e
-    go false h e = let i : l ≡ l′ = cc in rw (← i) (g, omega arith)
+step-good l l′ id v g hb e =
+    stepped l l′ id v e (λ h i. rw (← i) (g, omega arith)) λ h m x y i.
+    rw (← i) (upd-good l (placeOf id) v g (record { legal = x; fit = y; bytes = hb }), rw (id-of-place id h) at (upd-total l (placeOf id) v h))
 
 grow : (f : ℕ) (l l′ : Values) (bs : List ℕ) → Good l → Bytes bs → parseIn f l bs ≡ accepted l′ → Good l′ × (total l′ ≤ total l + length bs)
 grow zero l l′ [] g hb e = let i : l ≡ l′ = cc in rw (← i) (g, omega arith)

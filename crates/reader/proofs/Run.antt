@@ -3,23 +3,26 @@
 --     parse-front      the parameter at the front, and then the rest
 --     parse-whole      a whole parameter, whatever follows
 --     step-unknown     an unknown parameter is skipped
+--     step-copy        a second copy is refused, whatever its value
+--     stepped          what a step that was accepted did
 --     skipped          unknown whole parameters anywhere change nothing
 --     upd-at           values with one place replaced
-use Prim.Native.Nat.{ℕ, zero, suc, _≤_}
+use Prim.Native.Nat.{ℕ, zero, suc, _≤_, _<_}
 use mathlib.Core.Path.{_≡_, refl, ap, sym, _∙_, fun-ext}
 use mathlib.Core.List.{List, [], _∷_, _++_}
-use mathlib.Core.Option.{Option}
+use mathlib.Core.Option.{Option, some}
 use mathlib.Core.Bool.{Bool, true, false}
 use native.Mathlib.Omega.{arith}
 use lib.ListN.{length}
-use lib.Dec.{eqb}
-use borrow.Author.Tests.{le-ltb, eqb-true, eqb-false}
+use lib.Dec.{eqb, ltb}
+use borrow.Author.Tests.{le-ltb, lt-ltb, ltb-true, ltb-false, eqb-true, eqb-false}
 use Rattle.refusal.specs.Outcome.{Result, accepted, refused, pick, andThen}
-use Rattle.catalogue.specs.Catalogue.{places, placeOf}
-use Rattle.record.specs.Values.{Values, upd}
+use Rattle.catalogue.specs.Catalogue.{places, placeOf, kindAt, fits, illegal}
+use Rattle.record.specs.Values.{Values, isSome, upd}
 use Rattle.front.specs.declared.Fault.{Fault}
+use Rattle.front.specs.declared.Fault.the-variants.{SecondCopy, Misfit, Illegal}
 use Rattle.front.specs.Parameter.{readParameter}
-use Rattle.reader.specs.Reading.{step, parseIn, parse}
+use Rattle.reader.specs.Reading.{receive, step, parseIn, parse}
 use Rattle.front.specs.Whole.{Inserted, done, same, unknown, concat}
 use Rattle.front.proofs.Front.{shorter, front-append}
 
@@ -57,6 +60,28 @@ parse-whole l w cs id v e = parse-front l (w ++ cs) (id, v, cs) (front-append w 
 pub step-unknown : (l : Values) (id : ℕ) (v : List ℕ) → places ≤ placeOf id → step l id v ≡ accepted l
 unfolding step
 step-unknown l id v h = rw (le-ltb (placeOf id) places h)
+
+pub step-copy : (l : Values) (id : ℕ) (v : List ℕ) → placeOf id < places → isSome (l (placeOf id)) ≡ true → step l id v ≡ refused SecondCopy
+unfolding step receive
+step-copy l id v h m = rw (lt-ltb (placeOf id) places h, m)
+
+-- an unknown parameter, or a value that fits, at a place that was free
+pub stepped : {P : Type 0} (l k : Values) (id : ℕ) (v : List ℕ) → step l id v ≡ accepted k → (places ≤ placeOf id → l ≡ k → P)
+    → (placeOf id < places → isSome (l (placeOf id)) ≡ false → illegal (kindAt (placeOf id)) v ≡ false → fits (kindAt (placeOf id)) v ≡ true
+    → upd l (placeOf id) (some v) ≡ k → P) → P
+unfolding step receive
+stepped {P} l k id v e skip keep = go (ltb (placeOf id) places) refl e
+  where
+    at : (a b c : Bool) → placeOf id < places → isSome (l (placeOf id)) ≡ a → illegal (kindAt (placeOf id)) v ≡ b → fits (kindAt (placeOf id)) v ≡ c
+        → pick {A = Result Fault Values} a (refused SecondCopy) (pick b (refused Illegal) (pick c (accepted (upd l (placeOf id) (some v))) (refused Misfit))) ≡ accepted k → P
+    at false false true h x y z e = keep h x y z (cc)
+    at false false false h x y z e = let w : _≡_ {A = ℕ} 0 1 = cc in absurd (omega arith)
+    at false true c h x y z e = let w : _≡_ {A = ℕ} 0 1 = cc in absurd (omega arith)
+    at true b c h x y z e = let w : _≡_ {A = ℕ} 0 1 = cc in absurd (omega arith)
+
+    go : (b : Bool) → ltb (placeOf id) places ≡ b → pick {A = Result Fault Values} b (receive l (placeOf id) v) (accepted l) ≡ accepted k → P
+    go true h e = at (isSome (l (placeOf id))) (illegal (kindAt (placeOf id)) v) (fits (kindAt (placeOf id)) v) (ltb-true _ _ h) refl refl refl e
+    go false h e = skip (ltb-false _ _ h) (cc)
 
 -- unknown ones anywhere change nothing
 pub skipped : {ws ws′ : List (List ℕ)} → Inserted ws ws′ → (l : Values) → parse l (concat ws′) ≡ parse l (concat ws)

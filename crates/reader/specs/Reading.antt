@@ -3,7 +3,6 @@
 use Prim.Native.Nat.{ℕ, zero, suc}
 use mathlib.Core.List.{List, [], _∷_}
 use mathlib.Core.Option.{some}
-use mathlib.Core.Bool.{_&&_, not}
 use lib.ListN.{length}
 use lib.Dec.{ltb}
 use Rattle.refusal.specs.Outcome.{Result, accepted, refused, Outcome, pick, andThen}
@@ -16,12 +15,11 @@ use Rattle.front.specs.declared.Fault.{Fault}
 use Rattle.front.specs.declared.Fault.the-variants.{Cut, SecondCopy, Misfit, Illegal}
 use Rattle.front.specs.Parameter.{readParameter}
 use Rattle.front.specs.Answer.{numbered}
-use Rattle.value.specs.Value.{mayRepeat}
 
--- a value for a known place: a second copy, then a value that is illegal, then one that does not fit
+-- a value for a known place: a second copy (section 7.4), then a value that is illegal, then one that does not fit
 unfoldable pub receive : Values → ℕ → List ℕ → Result Fault Values
 receive l p v =
-    pick (isSome (l p) && not (mayRepeat p))
+    pick (isSome (l p))
     (refused SecondCopy)
     (pick (illegal (kindAt p) v) (refused Illegal) (pick (fits (kindAt p) v) (accepted (upd l p (some v))) (refused Misfit)))
 

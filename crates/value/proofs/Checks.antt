@@ -24,7 +24,7 @@ use Rattle.record.specs.Values.{value}
 use Rattle.front.specs.declared.Fault.{Fault}
 use Rattle.front.specs.declared.Fault.the-variants.{SecondCopy, Misfit, Illegal}
 use Rattle.value.specs.Answer.{judged}
-use Rattle.value.specs.Value.{isSimple, mayRepeat, keptOf, checkKind, checkValue, receiveValue}
+use Rattle.value.specs.Value.{isSimple, keptOf, checkKind, checkValue, receiveValue}
 
 -- A VALUE OF A KIND. Numbers
 module _ (a : ℕ) (v : List ℕ) where
@@ -261,13 +261,13 @@ fits-longest t n (suc (suc i)) j ht hn hi hj = absurd (omega arith)
 pub for-place : (p : ℕ) (k : Kind) (a : ℕ) (v : List ℕ) (o : Result Fault ℕ) → kindAt p ≡ k → o ≡ checkKind k a v → o ≡ checkValue p a v
 for-place p k a v o e h = rw e h
 
--- a second copy that must not be
+-- a place that was met, or not
 module _ (p a : ℕ) (v : List ℕ) (met : Bool) where
-  pub second-copy : (met && not (mayRepeat p)) ≡ true → refused SecondCopy ≡ receiveValue met p a v
+  pub second-copy : met ≡ true → refused SecondCopy ≡ receiveValue met p a v
   unfolding receiveValue
   second-copy e = rw e
 
-  pub no-copy : (met && not (mayRepeat p)) ≡ false → receiveValue met p a v ≡ checkValue p a v
+  pub no-copy : met ≡ false → receiveValue met p a v ≡ checkValue p a v
   unfolding receiveValue
   no-copy e = rw e
 
@@ -278,7 +278,7 @@ pub record Taken (p a : ℕ) (v : List ℕ) (x : ℕ) : Type 0 where
 
 pub taken : (met : Bool) (p a : ℕ) (v : List ℕ) (x : ℕ) → accepted x ≡ receiveValue met p a v → Taken p a v x
 unfolding receiveValue checkKind
-taken met p a v x e = go (met && not (mayRepeat p)) (illegal (kindAt p) v) (fits (kindAt p) v) refl e
+taken met p a v x e = go met (illegal (kindAt p) v) (fits (kindAt p) v) refl e
   where
     go : (s i f : Bool) → fits (kindAt p) v ≡ f
         → accepted x ≡ pick {A = Result Fault ℕ} s (refused SecondCopy) (pick i (refused Illegal) (pick f (accepted (keptOf (kindAt p) a v)) (refused Misfit)))

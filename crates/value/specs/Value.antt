@@ -2,18 +2,13 @@
 -- these.
 use Prim.Native.Nat.{ℕ}
 use mathlib.Core.List.{List}
-use mathlib.Core.Bool.{Bool, true, false, _&&_, _||_, not}
-use lib.Dec.{eqb}
+use mathlib.Core.Bool.{Bool, true, false}
 use Rattle.refusal.specs.Outcome.{Result, accepted, refused, pick}
 use Rattle.varint.specs.Number.{readNumber}
 use Rattle.catalogue.specs.Catalogue.{Kind, number, flag, cid, token, address, reserved, kindAt, fits, illegal}
 use Rattle.record.specs.Values.{value}
 use Rattle.front.specs.declared.Fault.{Fault}
 use Rattle.front.specs.declared.Fault.the-variants.{SecondCopy, Misfit, Illegal}
-
--- grease_quic_bit may repeat, and the last min_ack_delay counts
-unfoldable pub mayRepeat : ℕ → Bool
-mayRepeat p = eqb p 19 || eqb p 20
 
 -- a kind whose values are told by their length and their first byte
 abbrev pub isSimple : Kind → Bool
@@ -39,6 +34,6 @@ checkKind k a v = pick (illegal k v) (refused Illegal) (pick (fits k v) (accepte
 abbrev pub checkValue : ℕ → ℕ → List ℕ → Result Fault ℕ
 checkValue p a v = checkKind (kindAt p) a v
 
--- a value for a place, which was met before or not
+-- a value for a place, which was met before or not: a second copy (RFC 9000 section 7.4), before its value is looked at
 unfoldable pub receiveValue : Bool → ℕ → ℕ → List ℕ → Result Fault ℕ
-receiveValue met p a v = pick (met && not (mayRepeat p)) (refused SecondCopy) (checkValue p a v)
+receiveValue met p a v = pick met (refused SecondCopy) (checkValue p a v)

@@ -5,12 +5,10 @@ ghost use Prim.Native.Nat.{_≤_, _<_};
 ghost use lib.ListN.{length, take};
 ghost use Rattle.refusal.specs.Outcome.{pick};
 ghost use Rattle.catalogue.specs.Catalogue.{number, address, kindAt};
-ghost use Rattle.value.specs.Value.{isSimple, mayRepeat, checkKind, checkValue, receiveValue};
+ghost use Rattle.value.specs.Value.{isSimple, checkKind, checkValue, receiveValue};
 ghost use Rattle.value.specs.Answer.{valueOutcome, judged};
 use catalogue::CID_PLACES;
 use catalogue::FLAG_PLACES;
-use catalogue::GREASE_QUIC_BIT;
-use catalogue::MIN_ACK_DELAY;
 use catalogue::NUMBER_PLACES;
 use catalogue::PREFERRED_ADDRESS;
 use catalogue::SIMPLE_PLACES;
@@ -23,7 +21,6 @@ use varint::Decoded;
 use varint::VarInt;
 use words::all_zero;
 use words::and;
-use words::or;
 
 // What is kept of a value: the number that it holds or, for another kind, where it starts; or what is wrong.
 pub enum Value {
@@ -133,18 +130,11 @@ fn check_value(place: usize, start: usize, len: usize, rest: &[u8]) -> Value
     check_narrow(place, start, &rest[..len])
 }
 
-// grease_quic_bit may repeat, and the last min_ack_delay counts.
-fn may_repeat(place: usize) -> bool
-    ensures { λ r. ⌜ r ≡ mayRepeat place ⌝ }
-{
-    or(place == GREASE_QUIC_BIT, place == MIN_ACK_DELAY)
-}
-
 // A value for a place, which was met before or not: `len` bytes at the front of `rest`, which starts at `start` of the extension.
 pub fn receive(met: bool, place: usize, start: usize, len: usize, rest: &[u8]) -> Value
     ensures { λ r. ⌜ valueOutcome r ≡ receiveValue met place start (take len (now (rest .entry))) ⌝ }
 {
-    if and(met, !may_repeat(place)) {
+    if met {
         return Value::Wrong(Fault::SecondCopy);
     }
     check_value(place, start, len, rest)

@@ -94,7 +94,7 @@ fn front_at(src: &[u8], at: usize) -> Front
 }
 
 // The culprit of an extension that is refused: the first fault from the front, as reading finds it. If there is none, a value rule is broken:
-// by the first parameter that breaks one by itself, or else by the last min_ack_delay.
+// by the first parameter that breaks one by itself, or else by min_ack_delay.
 fn locate(side: Side, src: &[u8]) -> Culprit {
     let mut met: u32 = 0;
     let mut is_found = false;

@@ -7,16 +7,13 @@ use Rattle.value.proofs.receive.Tie as tie
 
 returns : tie.Need-returns
 returns c =
-    let a = c .before .before .before .before .args in
-    second-copy (a .place) (a .start) (take (a .len) (a .rest .now)) (a .met)
-    (rw (c .before .before .may-repeat .ensures) at (sym (c .before .and .ensures)) ∙ c .if1 .taken)
+    let a = c .before .before .args in
+    second-copy (a .place) (a .start) (take (a .len) (a .rest .now)) (a .met) (c .if1 .taken)
 
 returns-2 : tie.Need-returns-2
 returns-2 c =
-    let a = c .before .before .before .before .before .args in
-    c .check-value .ensures
-    ∙ sym (no-copy (a .place) (a .start) (take (a .len) (a .rest .now)) (a .met)
-    (rw (c .before .before .before .may-repeat .ensures) at (sym (c .before .before .and .ensures)) ∙ c .before .if1 .left))
+    let a = c .before .before .before .args in
+    c .check-value .ensures ∙ sym (no-copy (a .place) (a .start) (take (a .len) (a .rest .now)) (a .met) (c .before .if1 .left))
 
 pub receive-spec : {M : Type 1} → statement M
-receive-spec = tie.close (tie.spec (λ c κs. tt) (λ c κs. tt) returns (λ c κs. tt) returns-2)
+receive-spec = tie.close (tie.spec returns (λ c κs. tt) returns-2)
