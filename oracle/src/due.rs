@@ -25,11 +25,12 @@ impl By {
 }
 
 pub fn by(c: &Case) -> By {
-    if c.declined != 0 || c.op == Op::CheckOrder {
-        return By::Document01;
+    match c.op {
+        _ if c.declined != 0 => By::Document01,
+        Op::CheckOrder => By::Document01,
+        Op::Read | Op::Tidy | Op::TidyTwice => second_copy(c.x).map_or(By::Quinn, By::Request02),
+        _ => By::Quinn,
     }
-    let extension = matches!(c.op, Op::Read | Op::Tidy | Op::TidyTwice);
-    second_copy(c.x).filter(|_| extension).map_or(By::Quinn, By::Request02)
 }
 
 /// Where the second grease_quic_bit or min_ack_delay starts, of the two that quinn lets repeat. Only whole parameters count: what is cut

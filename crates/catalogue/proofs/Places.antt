@@ -1,6 +1,7 @@
 -- The laws of the tables. Assumes nothing.
 --     below-at                    a test of each place below a number, by computing
 --     place-of-id, id-of-place    identifiers and places belong together
+--     place-within                an identifier's place is one of the catalogue, or the number of them
 --     id-lt                       a number holds each identifier
 --     reserved-unknown            a reserved identifier has no place
 --     unknown                     identifiers outside the table
@@ -57,6 +58,22 @@ id-of-place id h = go (ltb id bound) h
     go : (b : Bool) → pick b (indexOf id ids) places < places → getD ids (pick b (indexOf id ids) places) 0 ≡ id
     go true k = index-at id ids k
     go false k = absurd (omega arith)
+
+index-within : (x : ℕ) (ys : List ℕ) → indexOf x ys ≤ length ys
+index-within x [] = omega arith
+index-within x (y ∷ ys) = go (eqb x y) (index-within x ys)
+  where
+    go : (b : Bool) → indexOf x ys ≤ length ys → pick b 0 (suc (indexOf x ys)) ≤ suc (length ys)
+    go true h = omega arith
+    go false h = omega arith
+
+pub place-within : (id : ℕ) → placeOf id ≤ places
+unfolding placeOf ids
+place-within id = go (ltb id bound)
+  where
+    go : (b : Bool) → pick b (indexOf id ids) places ≤ places
+    go true = index-within id ids
+    go false = omega arith
 
 -- an identifier with remainder 27 on division by 31 is unknown
 none-of : (x : ℕ) (ys : List ℕ) → every (λ y. not (eqb (y % 31) 27)) ys ≡ true → x % 31 ≡ 27 → indexOf x ys ≡ length ys

@@ -1,5 +1,6 @@
 -- Laws of one turn of the scan. Assumes nothing.
 --     value-lent    the value of a parameter, lent with what is behind it
+--     known         a place that is not the number of places is one of them
 --     stop, cut-off, passed, faulty, taken     the end; a broken parameter; an unknown one; a value refused; a value received
 use Prim.Native.Nat.{ℕ, zero, suc, _-_, _≤_, _<_}
 use mathlib.Core.Path.{_≡_, refl, ap, sym, _∙_, fun-ext}
@@ -12,6 +13,7 @@ use borrow.Author.Tests.{lt-ltb, le-ltb, ltb-true, ltb-false}
 use Rattle.refusal.specs.Outcome.{Result, accepted, refused, pick, andThen}
 use Rattle.marks.specs.Mark.{marked}
 use Rattle.catalogue.specs.Catalogue.{places, placeOf}
+use Rattle.catalogue.proofs.Places.{place-within}
 use Rattle.front.specs.declared.Fault.{Fault}
 use Rattle.front.specs.declared.Fault.the-variants.{Cut}
 use Rattle.front.specs.Parameter.{located}
@@ -44,6 +46,9 @@ fuel (suc n) (suc m) s at f hn hm = go (ltb at (length s)) refl (fuel n m)
 -- a value at the front of what is lent
 pub value-lent : (s : List ℕ) (p a e : ℕ) (b t : Bool) (o : Result Fault ℕ) → o ≡ receiveValue b p a (take (e - a) (lent s a)) → b ≡ t → o ≡ receiveValue t p a (between s a e)
 value-lent s p a e b t o h q = h ∙ rw (lent-is s a, q)
+
+pub known : (p id : ℕ) → p ≡ placeOf id → (p ≡ places → ⊥) → p < places
+known p id e n = omega (arith, place-within id)
 
 module _ (s : List ℕ) (f : Found) (at : ℕ) where
   pub stop : length s ≤ at → indexFrom s at f ≡ accepted f

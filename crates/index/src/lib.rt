@@ -65,7 +65,8 @@ const INITIAL: [u64; PLACES] = [
     0,
 ];
 
-// Goes through the parameters.
+// Goes through the parameters. A mark is looked up and set before it is asked whether the place is one of the catalogue: asked first, the
+// compiler takes the arrays apart.
 fn scan(src: &[u8], kept: &mut [u64; PLACES], lens: &mut [u8; PLACES]) -> Scanned
     requires { ⌜ (now kept ≡ initialKept) × (now lens ≡ replicate places 0) ⌝ }
     ensures { λ r. ⌜ scanOutcome r (now (kept .exit)) (now (lens .exit)) ≡ indexFrom (now (src .entry)) 0 nothing ⌝ }
@@ -77,13 +78,14 @@ fn scan(src: &[u8], kept: &mut [u64; PLACES], lens: &mut [u8; PLACES]) -> Scanne
             return Scanned::Stopped(Fault::Cut);
         };
         let place = catalogue::place_of(id);
-        if place < PLACES {
-            let met = is_marked(marks, place);
+        let met = is_marked(marks, place);
+        let next = with_mark(marks, place);
+        if place != PLACES {
             match value::receive(met, place, start, end - start, &src[start..]) {
                 Value::Fits(x) => {
                     kept[place] = x;
                     lens[place] = low((end - start) as u64);
-                    marks = with_mark(marks, place);
+                    marks = next;
                 }
                 Value::Wrong(fault) => {
                     return Scanned::Stopped(fault);

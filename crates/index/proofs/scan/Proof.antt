@@ -1,17 +1,18 @@
 -- `index::scan` meets its contract. The invariant: from here on, with what is kept so far, the outcome is that of the whole input. Assumes nothing.
-use Prim.Native.Nat.{_≤_, _-_}
+use Prim.Native.Nat.{_≤_, _<_, _-_}
 use mathlib.Core.Path.{_≡_, refl, ap, sym, _∙_}
 use native.Mathlib.Omega.{arith}
 use lib.ListN.{length}
 use borrow.Author.Tests.{lt-ltb}
 use Rattle.refusal.specs.Outcome.{accepted}
 use Rattle.marks.specs.Mark.{mark}
+use Rattle.catalogue.specs.Catalogue.{places}
 use Rattle.front.specs.Answer.{parameterOutcome}
 use Rattle.front.specs.Parameter.{located}
 use Rattle.front.proofs.Position.{Within, within}
 use Rattle.value.specs.Answer.{valueOutcome}
 use Rattle.index.specs.Index.{nothing, keep, indexFrom}
-use Rattle.index.proofs.Turn.{value-lent, stop, cut-off, passed, faulty, taken}
+use Rattle.index.proofs.Turn.{value-lent, known, stop, cut-off, passed, faulty, taken}
 use Rattle.index.proofs.Sound.{between-length}
 use borrow.Author.Needs.{needs}
 use Rattle.index.proofs.scan.Statement.{statement}
@@ -44,38 +45,44 @@ enum-told c = search needs
 returns : tie.Need-returns Inv-loop μ-loop
 returns c = sym (cut-off (c .before .before .before .before .before .before .args .src .now) (c .before .before .before .before .loop .marks, c .before .before .before .before .loop .kept, c .before .before .before .before .loop .lens) (c .before .before .before .before .loop .at) (c .before .before .before .loop-test .taken) (sym (ap parameterOutcome (c .enum-told .given .1)) ∙ c .before .before .parameter-at .ensures)) ∙ c .before .before .before .before .loop .inv .1
 
+-- its place is one of the catalogue
+place-known : (c : tie.Then1 Inv-loop μ-loop) → c .before .before .before .place-of .result < places
+place-known c = let p = c .before .before .before .place-of in known (p .result) _ (p .ensures) (c .if1 .taken)
+
 sub-receive : tie.Need-sub-receive Inv-loop μ-loop
-sub-receive c = got (c .before .before .before) .1 .start
+sub-receive c = got (c .before .before .before .before) .1 .start
 
 sub-receive-2 : tie.Need-sub-receive-2 Inv-loop μ-loop
-sub-receive-2 c = let w = got (c .before .before .before) .1 in omega (arith, w .start, w .end)
+sub-receive-2 c = let w = got (c .before .before .before .before) .1 in omega (arith, w .start, w .end)
 
 part-receive-start : tie.Need-part-receive-start Inv-loop μ-loop
-part-receive-start c = let w = got (c .before .before .before) .1 in search needs
+part-receive-start c = let w = got (c .before .before .before .before) .1 in search needs
 
 part-receive-end : tie.Need-part-receive-end Inv-loop μ-loop
-part-receive-end c = let w = got (c .before .before .before) .1 in search needs
+part-receive-end c = let w = got (c .before .before .before .before) .1 in search needs
 
 mul-kept : tie.Need-mul-kept Inv-loop μ-loop
-mul-kept c = omega (arith, c .before .before .before .before .before .before .if1 .taken)
+mul-kept c = omega (arith, place-known (c .before .before .before .before .before))
 
 element-write-kept : tie.Need-element-write-kept Inv-loop μ-loop
-element-write-kept c = c .before .before .before .before .before .before .if1 .taken
+element-write-kept c = place-known (c .before .before .before .before .before)
 
 sub-low : tie.Need-sub-low Inv-loop μ-loop
-sub-low c = got (c .before .before .before .before .before .before .before .before) .1 .start
+sub-low c = got (c .before .before .before .before .before .before .before .before .before) .1 .start
 
 element-write-lens : tie.Need-element-write-lens Inv-loop μ-loop
-element-write-lens c = c .before .before .before .before .before .before .before .if1 .taken
+element-write-lens c = place-known (c .before .before .before .before .before .before)
 
 returns-2 : tie.Need-returns-2 Inv-loop μ-loop
 returns-2 c =
-    let s = c .before .before .before .before .before .before .before .before .before .before .before .before .before .before .before .args .src .now in
-    let l = c .before .before .before .before .before .before .before .before .before .before .before .before .before .loop in
-    let q = c .before .before .before .before .before .before .before .before .before .id .given .0 in
-    let g = got (c .before .before .before .before .before .before .before .before) in
-    let r = value-lent s (c .before .before .before .before .before .before .before .place-of .result) (q .1 .0) (q .1 .1 .0) _ _ _ (sym (ap valueOutcome (c .before .fault .given .1)) ∙ c .before .before .before .receive .ensures) (c .before .before .before .before .before .is-marked .ensures) in
-    sym (faulty s (l .marks, l .kept, l .lens) (l .at) (q .0) (q .1 .0) (q .1 .1 .0) (c .before .before .before .before .before .before .before .before .before .before .before .before .loop-test .taken) (g .0) (c .before .before .before .before .before .before .before .place-of .result) (c .before .before .before .before .before .before .before .place-of .ensures) (c .before .before .before .before .before .before .if1 .taken) _ r) ∙ l .inv .1
+    let t = c .before .before .before .before .before in
+    let s = t .before .before .before .before .before .before .before .before .before .before .before .args .src .now in
+    let l = t .before .before .before .before .before .before .before .before .before .loop in
+    let q = t .before .before .before .before .before .id .given .0 in
+    let g = got (t .before .before .before .before) in
+    let p = t .before .before .before .place-of in
+    let r = value-lent s (p .result) (q .1 .0) (q .1 .1 .0) _ _ _ (sym (ap valueOutcome (c .before .fault .given .1)) ∙ c .before .before .before .receive .ensures) (t .before .before .is-marked .ensures) in
+    sym (faulty s (l .marks, l .kept, l .lens) (l .at) (q .0) (q .1 .0) (q .1 .1 .0) (t .before .before .before .before .before .before .before .before .loop-test .taken) (g .0) (p .result) (p .ensures) (place-known t) _ r) ∙ l .inv .1
 
 loop-less : tie.Need-loop-less Inv-loop μ-loop
 loop-less c = let w = got (c .before .before .before .before .before .before .before .before .before .before) .1 in omega (arith, w .behind, w .start, w .end)
@@ -83,27 +90,29 @@ loop-less c = let w = got (c .before .before .before .before .before .before .be
 loop-again : tie.Need-loop-again Inv-loop μ-loop
 unfolding keep
 loop-again c =
-    let s = c .before .before .before .before .before .before .before .before .before .before .before .before .before .before .before .before .before .args .src .now in
-    let l = c .before .before .before .before .before .before .before .before .before .before .before .before .before .before .before .loop in
-    let q = c .before .before .before .before .before .before .before .before .before .before .before .id .given .0 in
-    let g = got (c .before .before .before .before .before .before .before .before .before .before) in
-    let p = c .before .before .before .before .before .before .before .before .before .place-of in
-    let x = c .before .before .before .x .given .0 .0 in
-    let r = value-lent s (p .result) (q .1 .0) (q .1 .1 .0) _ _ _ (sym (ap valueOutcome (c .before .before .before .x .given .1)) ∙ c .before .before .before .before .before .receive .ensures) (c .before .before .before .before .before .before .before .is-marked .ensures) in
-    let w : c .with-mark .result ≡ mark (l .marks) (p .result) = c .with-mark .ensures ∙ rw (lt-ltb (p .result) 32 (omega (arith, c .before .before .before .before .before .before .before .before .if1 .taken))) in
-    let t = taken s (l .marks, l .kept, l .lens) (l .at) (q .0) (q .1 .0) (q .1 .1 .0) (c .before .before .before .before .before .before .before .before .before .before .before .before .before .before .loop-test .taken) (g .0) (p .result) (p .ensures) (c .before .before .before .before .before .before .before .before .if1 .taken) x r in
-    (g .1 .end, rw (w, c .before .low .ensures, ← between-length s (q .1 .0) (q .1 .1 .0) (g .1 .start) (g .1 .end)) (sym t ∙ l .inv .1))
+    let t = c .before .before .before .before .before .before in
+    let s = t .before .before .before .before .before .before .before .before .before .before .before .args .src .now in
+    let l = t .before .before .before .before .before .before .before .before .before .loop in
+    let q = t .before .before .before .before .before .id .given .0 in
+    let g = got (t .before .before .before .before) in
+    let p = t .before .before .before .place-of in
+    let x = c .before .before .x .given .0 .0 in
+    let r = value-lent s (p .result) (q .1 .0) (q .1 .1 .0) _ _ _ (sym (ap valueOutcome (c .before .before .x .given .1)) ∙ c .before .before .before .before .receive .ensures) (t .before .before .is-marked .ensures) in
+    let w : t .before .with-mark .result ≡ mark (l .marks) (p .result) = t .before .with-mark .ensures ∙ rw (lt-ltb (p .result) 32 (omega (arith, place-known t))) in
+    let k = taken s (l .marks, l .kept, l .lens) (l .at) (q .0) (q .1 .0) (q .1 .1 .0) (t .before .before .before .before .before .before .before .before .loop-test .taken) (g .0) (p .result) (p .ensures) (place-known t) x r in
+    (g .1 .end, rw (w, c .low .ensures, ← between-length s (q .1 .0) (q .1 .1 .0) (g .1 .start) (g .1 .end)) (sym k ∙ l .inv .1))
 
 loop-less-2 : tie.Need-loop-less-2 Inv-loop μ-loop
-loop-less-2 c = let w = got (c .before .before) .1 in omega (arith, w .behind, w .start, w .end)
+loop-less-2 c = let w = got (c .before .before .before .before) .1 in omega (arith, w .behind, w .start, w .end)
 
 loop-again-2 : tie.Need-loop-again-2 Inv-loop μ-loop
 loop-again-2 c =
-    let s = c .before .before .before .before .before .before .before .before .before .args .src .now in
-    let l = c .before .before .before .before .before .before .before .loop in
-    let q = c .before .before .before .id .given .0 in
-    let g = got (c .before .before) in
-    (g .1 .end, sym (passed s (l .marks, l .kept, l .lens) (l .at) (q .0) (q .1 .0) (q .1 .1 .0) (c .before .before .before .before .before .before .loop-test .taken) (g .0) (rw (← c .before .place-of .ensures) (c .if1 .left))) ∙ l .inv .1)
+    let s = c .before .before .before .before .before .before .before .before .before .before .before .args .src .now in
+    let l = c .before .before .before .before .before .before .before .before .before .loop in
+    let q = c .before .before .before .before .before .id .given .0 in
+    let g = got (c .before .before .before .before) in
+    let n : places ≤ c .before .before .before .place-of .result = omega (arith, c .if1 .left) in
+    (g .1 .end, sym (passed s (l .marks, l .kept, l .lens) (l .at) (q .0) (q .1 .0) (q .1 .1 .0) (c .before .before .before .before .before .before .before .before .loop-test .taken) (g .0) (rw (← c .before .before .before .place-of .ensures) n)) ∙ l .inv .1)
 
 returns-3 : tie.Need-returns-3 Inv-loop μ-loop
 returns-3 c = sym (stop _ _ _ (c .loop-test .left)) ∙ c .before .loop .inv .1
@@ -121,6 +130,7 @@ scan-spec =
     returns
     (λ c κs. search needs)
     (λ c κs. search needs)
+    (λ c κs. search needs)
     sub-receive
     sub-receive-2
     part-receive-start
@@ -132,7 +142,6 @@ scan-spec =
     sub-low
     (λ c κs. search needs)
     element-write-lens
-    (λ c κs. search needs)
     (λ c. search needs)
     returns-2
     loop-less
