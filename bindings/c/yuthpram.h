@@ -130,7 +130,8 @@ uint8_t yuthpram_default(uint8_t *record, size_t record_len);
 /* Checks a record for the side that is to read it: a server checks its own record for YUTHPRAM_CLIENT. Refuses 7, then 2. */
 uint8_t yuthpram_check(const uint8_t *record, size_t record_len, uint8_t side);
 
-/* Reads an extension for the side that reads. Refuses 1 or 2, then 5 if record_len is below 303. A second copy of a known parameter is 1. */
+/* Reads an extension for the side that reads. Refuses 1 or 2, then 5 if record_len is below 303. A second copy of a known parameter
+ * is 1. */
 uint8_t yuthpram_read(uint8_t side, const uint8_t *src, size_t src_len, uint8_t *record, size_t record_len);
 
 /* Whether an order is a permutation of 0 to 20. Refuses 6. */
