@@ -25,10 +25,12 @@ pub enum Op {
     CheckOrder,
     /// how many bytes the Rust writes, in the record's order; in catalogue order if that is no permutation, which the length does not look at
     Length,
+    /// the Rust reads an extension that it accepts, the library the same whole parameters in another order
+    Rearranged,
 }
 
 impl Op {
-    pub const ALL: [(Op, &'static str); 16] = [
+    pub const ALL: [(Op, &'static str); 17] = [
         (Op::NumberSize, "number_size"),
         (Op::NumberRead, "number_read"),
         (Op::NumberWrite, "number_write"),
@@ -45,6 +47,7 @@ impl Op {
         (Op::TidyTwice, "tidy twice"),
         (Op::CheckOrder, "check_order"),
         (Op::Length, "length"),
+        (Op::Rearranged, "rearranged"),
     ];
 }
 
@@ -56,6 +59,7 @@ impl Op {
 /// | number_read, cid_read | | the input | | | |
 /// | cid_write | | an ID's image | | | |
 /// | read, tidy | side | the extension | | | |
+/// | rearranged | side | the extension | the same in another order | | |
 /// | check | side | a record's image | | | |
 /// | write, issue_limit, length | | a record's image | | | |
 /// | resumption | | a record's image | the cached one's | | |
@@ -82,6 +86,11 @@ impl<'a> Case<'a> {
 
     pub fn declined(self, declined: u8) -> Self {
         Case { declined, ..self }
+    }
+
+    /// Of a rearranged extension: the other order, to be read.
+    pub fn other_order(&self) -> Self {
+        Case::new(Op::Read, self.number, self.y, self.room)
     }
 }
 

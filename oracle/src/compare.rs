@@ -1,11 +1,11 @@
 //! The run: the library's answer to every case is compared with the one that is due.
 
-use std::time::Instant;
+use std::{cell::Cell, time::Instant};
 
 use crate::{
     answer::{Answer, Case, Op},
     due::{self, By},
-    inputs::{Dice, EDGES},
+    inputs::{self, Dice, EDGES},
     library,
     suite::Suite,
 };
@@ -75,36 +75,58 @@ fn plant(c: &Case, nth: u64, got: &mut library::Called) {
     }
 }
 
-/// Every case of the documented run.
-fn all(s: &mut Suite) {
-    s.default();
-    s.shown();
-    s.real(1, 500_000);
-    s.numbers(100_000);
-    s.cids(200);
-    s.forms(&EDGES);
-    s.edges();
-    s.edge_pairs();
-    s.sequences(3);
-    s.subsets(1);
-    s.generated(1_000_000);
-    s.damaged(2_000, 1);
-    s.random(3_000);
-    s.records(1_000_000);
-    s.record_edges();
-    s.orders(100_000);
-    s.order_tests(1_000_000);
-    s.building(1_000_000);
-    s.building_refused(100_000);
-    s.resumption(500_000);
-    s.declined(50_000);
-    s.numbers_short(3);
-    s.short(3);
+/// The parts of the documented run.
+const PARTS: [(&str, fn(&mut Suite)); 24] = [
+    ("default", |s| s.default()),
+    ("shown", |s| s.shown()),
+    ("real", |s| s.real(1, 500_000)),
+    ("numbers", |s| s.numbers(100_000)),
+    ("cids", |s| s.cids(200)),
+    ("forms", |s| s.forms(&EDGES)),
+    ("edges", |s| s.edges()),
+    ("edge_pairs", |s| s.edge_pairs()),
+    ("sequences", |s| s.sequences(3)),
+    ("subsets", |s| s.subsets(1)),
+    ("generated", |s| s.generated(1_000_000)),
+    ("damaged", |s| s.damaged(2_000, 1)),
+    ("random", |s| s.random(3_000)),
+    ("records", |s| s.records(1_000_000)),
+    ("record_edges", |s| s.record_edges()),
+    ("orders", |s| s.orders(100_000)),
+    ("order_tests", |s| s.order_tests(1_000_000)),
+    ("building", |s| s.building(1_000_000)),
+    ("building_refused", |s| s.building_refused(100_000)),
+    ("resumption", |s| s.resumption(500_000)),
+    ("declined", |s| s.declined(50_000)),
+    ("numbers_short", |s| s.numbers_short(3)),
+    ("short", |s| s.short(3)),
+    ("rearrangements", |s| s.rearrangements(5_000, 100)),
+];
+
+/// How many extensions of a part were rearranged; with unknown parameters; with unknown ones of which an identifier or a length is in a longer
+/// form than it needs.
+#[derive(Default, Clone, Copy)]
+struct Shuffles {
+    all: u64,
+    unknown: u64,
+    long: u64,
+}
+
+impl Shuffles {
+    fn add(&mut self, x: &[u8]) {
+        let all = inputs::parameters(x);
+        let mut unknown = all.iter().filter(|p| p.is_unknown()).peekable();
+        self.all += 1;
+        self.unknown += unknown.peek().is_some() as u64;
+        self.long += unknown.any(|p| p.is_long()) as u64;
+    }
 }
 
 pub fn compare(planted: bool) {
     let start = Instant::now();
     let mut tallies = [Tally::default(); Op::ALL.len()];
+    let part = Cell::new(0);
+    let mut shuffles = [Shuffles::default(); PARTS.len()];
     let mut sink = |c: &Case| {
         let by = due::by(c);
         let want = due::answer_by(by, c);
@@ -126,9 +148,16 @@ pub fn compare(planted: bool) {
                 show(c, &want, &got);
             }
         }
+        if c.op == Op::Rearranged {
+            shuffles[part.get()].add(c.y);
+        }
+        want.code == 0
     };
-    let mut suite = Suite { d: Dice(SEED), sink: &mut sink };
-    all(&mut suite);
+    let mut suite = Suite { d: Dice(SEED), orders: Some(Dice(SEED)), sink: &mut sink };
+    for (i, (_, run)) in PARTS.iter().enumerate() {
+        part.set(i);
+        run(&mut suite);
+    }
 
     println!(
         "{:<14}{:>12}{:>14}{:>16}{:>15}{:>12}{:>13}",
@@ -141,6 +170,10 @@ pub fn compare(planted: bool) {
     }
     sum.line("all");
     println!("skipped in the run against quinn, because they repeat grease_quic_bit or min_ack_delay: {}", sum.request_02);
+    println!("{:<14}{:>12}{:>18}{:>26}", "rearranged of", "cases", "with unknown ones", "of these, in longer forms");
+    for ((name, _), n) in PARTS.iter().zip(&shuffles).filter(|(_, n)| n.all > 0) {
+        println!("{name:<14}{:>12}{:>18}{:>26}", n.all, n.unknown, n.long);
+    }
     println!("seed {SEED:#x}, {:.1} seconds", start.elapsed().as_secs_f64());
     let found = tallies.iter().filter(|t| t.differences > 0).count();
     if planted {

@@ -98,11 +98,15 @@ impl Dice {
         if self.one_in(2) { self.of(&EDGES) } else { self.next() >> (2 + self.below(62)) }
     }
 
+    pub fn shuffle<T>(&mut self, all: &mut [T]) {
+        for i in (1..all.len()).rev() {
+            all.swap(i, self.below(i + 1));
+        }
+    }
+
     pub fn permutation(&mut self) -> [u8; 21] {
         let mut order = image::CATALOGUE_ORDER;
-        for i in (1..order.len()).rev() {
-            order.swap(i, self.below(i + 1));
-        }
+        self.shuffle(&mut order);
         order
     }
 }
@@ -223,9 +227,7 @@ pub fn extension(d: &mut Dice, mask: u32) -> Vec<u8> {
     if d.one_in(16) && !ids.is_empty() {
         ids.push(d.of(&ids));
     }
-    for i in (1..ids.len()).rev() {
-        ids.swap(i, d.below(i + 1));
-    }
+    d.shuffle(&mut ids);
     let mut out = Vec::new();
     for id in ids {
         let v = value(d, id);
@@ -244,23 +246,49 @@ pub fn unhex(text: &str) -> Vec<u8> {
     (0..text.len()).step_by(2).map(|i| u8::from_str_radix(&text[i..i + 2], 16).unwrap()).collect()
 }
 
-/// The identifiers and values of an extension's parameters.
-fn parameters(mut x: &[u8]) -> Vec<(u64, Vec<u8>)> {
+/// A whole parameter of an extension.
+pub struct Parameter<'a> {
+    /// as it stands
+    pub bytes: &'a [u8],
+    pub id: u64,
+    pub value: &'a [u8],
+}
+
+impl Parameter<'_> {
+    pub fn is_unknown(&self) -> bool {
+        !KNOWN.contains(&self.id)
+    }
+
+    /// Its identifier or its length is not in the shortest form.
+    pub fn is_long(&self) -> bool {
+        let size = |x: u64| VarInt(x).size();
+        self.bytes.len() - self.value.len() > size(self.id) + size(self.value.len() as u64)
+    }
+}
+
+/// The whole parameters of an extension that is made of them.
+pub fn parameters(mut x: &[u8]) -> Vec<Parameter<'_>> {
     let mut all = Vec::new();
     while !x.is_empty() {
-        let (id, len) = (x.get_var().unwrap(), x.get_var().unwrap());
-        let (value, rest) = x.split_at(len as usize);
-        all.push((id, value.to_vec()));
-        x = rest;
+        let mut rest = x;
+        let (id, len) = (rest.get_var().unwrap(), rest.get_var().unwrap());
+        let (value, behind) = rest.split_at(len as usize);
+        all.push(Parameter { bytes: &x[..x.len() - behind.len()], id, value });
+        x = behind;
     }
     all
+}
+
+/// Their identifiers and values.
+fn values(x: &[u8]) -> Vec<(u64, Vec<u8>)> {
+    parameters(x).iter().map(|p| (p.id, p.value.to_vec())).collect()
 }
 
 /// The parameters of one extension, now and then with some of another, shuffled, in any forms; one or the other dropped, doubled, given
 /// another value, or joined by one more.
 pub fn mixed(d: &mut Dice, all: &[Vec<u8>]) -> Vec<u8> {
-    let mut kept = parameters(&all[d.below(all.len())]);
-    let others = parameters(&all[d.below(all.len())]);
+    let mut kept = values(&all[d.below(all.len())]);
+    let others = values(&all[d.below(all.len())]);
     match d.below(6) {
         0 => kept.truncate(d.below(kept.len() + 1)),
         1 => kept.push(d.of(&kept)),
@@ -279,9 +307,7 @@ pub fn mixed(d: &mut Dice, all: &[Vec<u8>]) -> Vec<u8> {
         }
         _ => {}
     }
-    for i in (1..kept.len()).rev() {
-        kept.swap(i, d.below(i + 1));
-    }
+    d.shuffle(&mut kept);
     let mut out = Vec::new();
     for (id, v) in &kept {
         put_parameter(d, &mut out, *id, v);

@@ -125,8 +125,10 @@ fn tidy_twice(c: &Case) -> Called {
 }
 
 pub fn call(c: &Case) -> Called {
-    if c.op == Op::TidyTwice {
-        return tidy_twice(c);
+    match c.op {
+        Op::TidyTwice => return tidy_twice(c),
+        Op::Rearranged => return call(&c.other_order()),
+        _ => {}
     }
     let (mut bytes, mut numbers) = (FILL, [UNTOUCHED; 5]);
     let settings: Vec<u64> = if c.op == Op::New { eights(c.x) } else { Vec::new() };
@@ -144,7 +146,7 @@ pub fn call(c: &Case) -> Called {
             Op::CidRead => yuthpram_cid_read(x, n, out, room, count),
             Op::CidWrite => yuthpram_cid_write(x, n, out, room, count),
             Op::Default => yuthpram_default(out, room),
-            Op::Read => yuthpram_read(side, x, n, out, room),
+            Op::Read | Op::Rearranged => yuthpram_read(side, x, n, out, room),
             Op::Write => yuthpram_write(x, n, out, room, count),
             Op::New => yuthpram_new(
                 settings.as_ptr(),

@@ -173,7 +173,7 @@ fn entry(c: &Case) -> Vec<u8> {
 
 pub fn record() {
     // every `step`th case of each part
-    let parts: [(usize, fn(&mut Suite)); 22] = [
+    let parts: [(usize, fn(&mut Suite)); 23] = [
         (1, |s| s.default()),
         (1, |s| s.shown()),
         (1, |s| s.real(61, 40)),
@@ -196,21 +196,26 @@ pub fn record() {
         (1, |s| s.building_refused(64)),
         (2, |s| s.resumption(112)),
         (3, |s| s.declined(34)),
+        (1, |s| {
+            s.orders = Some(Dice(SEED));
+            s.rearrangements(20, 4)
+        }),
     ];
     let (mut entries, mut bytes, mut requested) = (0, 0, 0);
     for (step, part) in parts {
         let mut turn = 0;
         let mut sink = |c: &Case| {
             if turn % step == 0 {
-                let e = entry(c);
+                let e = if c.op == Op::Rearranged { entry(&c.other_order()) } else { entry(c) };
                 stdout().write_all(&e).unwrap();
                 entries += 1;
                 bytes += e.len();
                 requested += (e[14] != 0) as usize;
             }
             turn += 1;
+            false
         };
-        part(&mut Suite { d: Dice(SEED), sink: &mut sink });
+        part(&mut Suite { d: Dice(SEED), orders: None, sink: &mut sink });
     }
     eprintln!("{entries} cases, {requested} of them by request 02, {bytes} bytes");
 }

@@ -74,7 +74,7 @@ pub fn answer(c: &Case) -> Answer {
         }
         Op::CidWrite => stored(|out| image::to_cid(c.x).encode_long(out)),
         Op::Default => Answer::stored(0, &image::of_record(&TransportParameters::default())),
-        Op::Read => match read(c.number, c.x) {
+        Op::Read | Op::Rearranged => match read(c.number, c.x) {
             Ok(p) => Answer::stored(0, &image::of_record(&p)),
             Err(e) => refusal(e),
         },

@@ -12,12 +12,15 @@ use crate::{
 
 pub struct Suite<'a> {
     pub d: Dice,
-    pub sink: &'a mut dyn FnMut(&Case),
+    /// Draws other orders of the extensions that are accepted, apart from everything else that is drawn; none: they are not rearranged.
+    pub orders: Option<Dice>,
+    /// Takes a case, and says whether it is to be accepted.
+    pub sink: &'a mut dyn FnMut(&Case) -> bool,
 }
 
 impl Suite<'_> {
-    pub fn case(&mut self, op: Op, number: u64, x: &[u8], room: usize) {
-        (self.sink)(&Case::new(op, number, x, room));
+    pub fn case(&mut self, op: Op, number: u64, x: &[u8], room: usize) -> bool {
+        (self.sink)(&Case::new(op, number, x, room))
     }
 
     /// The case with room for the bytes due exactly, for one fewer, for one more, and with the most and the least room.
@@ -37,7 +40,9 @@ impl Suite<'_> {
 
     /// Every byte string of up to `most` bytes, read as a number.
     pub fn numbers_short(&mut self, most: usize) {
-        every(most, |x| self.case(Op::NumberRead, 0, x, 8));
+        every(most, |x| {
+            self.case(Op::NumberRead, 0, x, 8);
+        });
     }
 
     pub fn numbers(&mut self, n: usize) {
@@ -108,7 +113,9 @@ impl Suite<'_> {
 
     pub fn extension_by(&mut self, side: u64, x: &[u8]) {
         let room = if self.d.one_in(16) { self.d.of(&[0, 1, 302, 304, MOST]) } else { RECORD };
-        self.case(Op::Read, side, x, room);
+        if self.case(Op::Read, side, x, room) {
+            self.rearranged(side, x);
+        }
         let room = if self.d.one_in(4) { self.d.below(x.len().min(400) + 1) } else { MOST };
         self.case(Op::Tidy, side, x, room);
         if self.d.one_in(8) {
@@ -120,10 +127,40 @@ impl Suite<'_> {
     pub fn short(&mut self, most: usize) {
         every(most, |x| {
             for side in [0, 1] {
-                self.case(Op::Read, side, x, RECORD);
+                if self.case(Op::Read, side, x, RECORD) {
+                    self.rearranged(side, x);
+                }
                 self.case(Op::Tidy, side, x, MOST);
             }
         });
+    }
+
+    /// An extension that a side accepts, with up to two unknown parameters behind it: the whole parameters of both in another order.
+    fn rearranged(&mut self, side: u64, x: &[u8]) {
+        let Some(d) = &mut self.orders else { return };
+        let mut x = x.to_vec();
+        for _ in 0..d.below(3) {
+            let id = inputs::unknown(d);
+            let v = inputs::value(d, id);
+            inputs::put_parameter(d, &mut x, id, &v);
+        }
+        let mut wholes: Vec<&[u8]> = inputs::parameters(&x).iter().map(|p| p.bytes).collect();
+        d.shuffle(&mut wholes);
+        let y = wholes.concat();
+        if y != x {
+            (self.sink)(&Case { y: &y, ..Case::new(Op::Rearranged, side, &x, RECORD) });
+        }
+    }
+
+    /// What real clients sent, and `n` extensions that a client accepts, each in `orders` other orders.
+    pub fn rearrangements(&mut self, n: usize, orders: usize) {
+        let real = inputs::real().into_iter().map(|x| (1, x));
+        let good: Vec<_> = (0..n).map(|_| (0, self.good())).collect();
+        for (side, x) in real.chain(good) {
+            for _ in 0..orders {
+                self.rearranged(side, &x);
+            }
+        }
     }
 
     /// Every `step`th set of the known parameters.

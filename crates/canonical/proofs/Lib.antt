@@ -1,5 +1,6 @@
 pub mod AnyOrder
 pub mod Written
 pub mod Theorem
+pub mod Rearranged
 pub mod Built
 pub mod Measured

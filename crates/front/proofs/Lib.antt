@@ -1,3 +1,4 @@
 pub mod Front
 pub mod Position
 pub mod Split
+pub mod Rearranged

@@ -1,7 +1,7 @@
 -- Extensions put together from whole parameters.
 use Prim.Native.Nat.{ℕ, _≤_, _<_}
 use mathlib.Core.Path.{_≡_}
-use mathlib.Core.List.{List, [], _∷_, _++_}
+use mathlib.Core.List.{List, [], _∷_, _++_, Perm}
 use Rattle.refusal.specs.Outcome.{accepted}
 use Rattle.catalogue.specs.Catalogue.{places, placeOf}
 use Rattle.front.specs.Parameter.{readParameter}
@@ -40,6 +40,16 @@ pub record Stuffed (e e′ : List ℕ) : Type 0 where
   pub is : concat ws ≡ e
   pub is′ : concat ws′ ≡ e′
   pub put : Inserted ws ws′
+
+-- bytes, and the same whole parameters in another order. `Perm` is the kit's rearrangement of a list: the first left where it is, the first two
+-- exchanged, one such change after another
+pub record Rearranged (e e′ : List ℕ) : Type 0 where
+  pub ws : List (List ℕ)
+  pub ws′ : List (List ℕ)
+  pub is : concat ws ≡ e
+  pub is′ : concat ws′ ≡ e′
+  pub each : Wholes ws
+  pub moved : Perm ws ws′
 
 -- whole parameters a, then w, then b; and a second copy u of w, which is a known one. Its value may be any
 pub record Repeated (a w b u : List ℕ) : Type 0 where

@@ -4,6 +4,7 @@
 --     parse-whole      a whole parameter, whatever follows
 --     step-unknown     an unknown parameter is skipped
 --     step-copy        a second copy is refused, whatever its value
+--     step-stored      a value that fits is stored at a place that is free
 --     stepped          what a step that was accepted did
 --     skipped          unknown whole parameters anywhere change nothing
 --     upd-at           values with one place replaced
@@ -64,6 +65,11 @@ step-unknown l id v h = rw (le-ltb (placeOf id) places h)
 pub step-copy : (l : Values) (id : ℕ) (v : List ℕ) → placeOf id < places → isSome (l (placeOf id)) ≡ true → step l id v ≡ refused SecondCopy
 unfolding step receive
 step-copy l id v h m = rw (lt-ltb (placeOf id) places h, m)
+
+pub step-stored : (l : Values) (id : ℕ) (v : List ℕ) → placeOf id < places → isSome (l (placeOf id)) ≡ false → illegal (kindAt (placeOf id)) v ≡ false
+    → fits (kindAt (placeOf id)) v ≡ true → step l id v ≡ accepted (upd l (placeOf id) (some v))
+unfolding step receive
+step-stored l id v h m x y = rw (lt-ltb (placeOf id) places h, m, x, y)
 
 -- an unknown parameter, or a value that fits, at a place that was free
 pub stepped : {P : Type 0} (l k : Values) (id : ℕ) (v : List ℕ) → step l id v ≡ accepted k → (places ≤ placeOf id → l ≡ k → P)
