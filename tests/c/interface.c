@@ -215,32 +215,63 @@ static size_t parameter(uint8_t *at, const uint8_t *id, size_t id_len, uint8_t b
     return id_len + 1 + len;
 }
 
+// The known parameters, each with a value that a client accepts; behind them two unknown ones, the last with its identifier in eight bytes.
+enum { KNOWN = 20, ALL = 22 };
+static const struct { size_t id_len; uint8_t id[8], byte; size_t len; } sample[] = {
+    { 1, { 0x01 }, 2, 1 },    { 1, { 0x03 }, 0xc1, 8 }, { 1, { 0x04 }, 2, 1 },  { 1, { 0x05 }, 2, 1 },       { 1, { 0x06 }, 2, 1 },
+    { 1, { 0x07 }, 2, 1 },    { 1, { 0x08 }, 2, 1 },    { 1, { 0x09 }, 2, 1 },  { 1, { 0x0a }, 2, 1 },       { 1, { 0x0b }, 2, 1 },
+    { 1, { 0x0e }, 2, 1 },    { 1, { 0x02 }, 9, 16 },   { 1, { 0x0c }, 0, 0 },  { 1, { 0x20 }, 2, 1 },       { 1, { 0x0d }, 1, 42 },
+    { 1, { 0x00 }, 7, 20 },   { 1, { 0x0f }, 7, 1 },    { 1, { 0x10 }, 7, 0 },  { 2, { 0x6a, 0xb2 }, 0, 0 },
+    { 8, { 0xc0, 0, 0, 0, 0xff, 0x04, 0xde, 0x1b }, 2, 1 },
+    { 1, { 0x1b }, 5, 3 },    { 8, { 0xc0, 0, 0, 0, 0, 0, 0, 0x1b }, 6, 2 },
+};
+_Static_assert(sizeof sample / sizeof *sample == ALL, "a row for each");
+
+static size_t put_sample(uint8_t *at, size_t i)
+{
+    return parameter(at, sample[i].id, sample[i].id_len, sample[i].byte, sample[i].len);
+}
+
 // Each known parameter is accepted once and refused the second time, also with a value that does not fit or has no family, and before a cut.
 static void second_copies(void)
 {
-    static const struct { size_t id_len; uint8_t id[8], byte; size_t len; } known[] = {
-        { 1, { 0x01 }, 2, 1 },    { 1, { 0x03 }, 0xc1, 8 }, { 1, { 0x04 }, 2, 1 },  { 1, { 0x05 }, 2, 1 },       { 1, { 0x06 }, 2, 1 },
-        { 1, { 0x07 }, 2, 1 },    { 1, { 0x08 }, 2, 1 },    { 1, { 0x09 }, 2, 1 },  { 1, { 0x0a }, 2, 1 },       { 1, { 0x0b }, 2, 1 },
-        { 1, { 0x0e }, 2, 1 },    { 1, { 0x02 }, 9, 16 },   { 1, { 0x0c }, 0, 0 },  { 1, { 0x20 }, 2, 1 },       { 1, { 0x0d }, 1, 42 },
-        { 1, { 0x00 }, 7, 20 },   { 1, { 0x0f }, 7, 1 },    { 1, { 0x10 }, 7, 0 },  { 2, { 0x6a, 0xb2 }, 0, 0 },
-        { 8, { 0xc0, 0, 0, 0, 0xff, 0x04, 0xde, 0x1b }, 2, 1 },
-    };
-    CHECK(sizeof known / sizeof *known == 20);
-    for (size_t i = 0; i < sizeof known / sizeof *known; i++) {
+    for (size_t i = 0; i < KNOWN; i++) {
         uint8_t src[128];
-        size_t id_len = known[i].id_len, n = parameter(src, known[i].id, id_len, known[i].byte, known[i].len);
+        size_t id_len = sample[i].id_len, n = put_sample(src, i);
         ACCEPTS(yuthpram_read(YUTHPRAM_CLIENT, src, n, out, RECORD));
         for (size_t len = 0; len <= 42; len += 42) {
-            size_t end = n + parameter(src + n, known[i].id, id_len, 0, len);
+            size_t end = n + parameter(src + n, sample[i].id, id_len, 0, len);
             REFUSES(1, yuthpram_read(YUTHPRAM_CLIENT, src, end, out, RECORD));
             REFUSES(1, yuthpram_tidy(YUTHPRAM_CLIENT, src, end, out, sizeof out, &count));
         }
-        size_t end = n + parameter(src + n, known[i].id, id_len, known[i].byte, known[i].len);
+        size_t end = n + put_sample(src + n, i);
         src[end] = 1;
         REFUSES(1, yuthpram_read(YUTHPRAM_CLIENT, src, end, out, RECORD));
         REFUSES(1, yuthpram_read(YUTHPRAM_CLIENT, src, end + 1, out, RECORD));
         REFUSES(1, yuthpram_tidy(YUTHPRAM_CLIENT, src, end, out, sizeof out, &count));
     }
+}
+
+// All of them, from each one on, forwards and backwards: always the same record, and tidied the same bytes.
+static void any_order(void)
+{
+    uint8_t record[RECORD], tidied[sizeof out];
+    size_t stored = 0;
+    for (size_t order = 0; order < 2 * ALL; order++) {
+        uint8_t src[512];
+        size_t len = 0;
+        for (size_t i = 0; i < ALL; i++)
+            len += put_sample(src + len, order < ALL ? (order + i) % ALL : (order + ALL - i) % ALL);
+        ACCEPTS(yuthpram_read(YUTHPRAM_CLIENT, src, len, out, sizeof out));
+        if (order == 0)
+            memcpy(record, out, RECORD);
+        CHECK(memcmp(out, record, RECORD) == 0 && kept(RECORD));
+        ACCEPTS(yuthpram_tidy(YUTHPRAM_CLIENT, src, len, out, sizeof out, &count));
+        if (order == 0)
+            memcpy(tidied, out, stored = count);
+        CHECK(count == stored && memcmp(out, tidied, stored) == 0 && kept(stored));
+    }
+    CHECK(get(record, 0) == 2 && record[89] == 1);
 }
 
 // A permutation of the places: the last place first.
@@ -535,6 +566,7 @@ int main(void)
     checking();
     reading();
     second_copies();
+    any_order();
     orders();
     writing();
     field_lengths();

@@ -3,7 +3,7 @@ use Prim.Native.Nat.{ℕ}
 use mathlib.Core.Path.{_≡_, refl, ap, sym, _∙_}
 use mathlib.Core.List.{List, [], _∷_, _++_, List·Permᴰ·swap}
 use lib.ListN.{replicate}
-use Rattle.refusal.specs.Outcome.{accepted, refused, all}
+use Rattle.refusal.specs.Outcome.{accepted, all}
 use Rattle.record.specs.declared.TransportParameters.{TransportParameters}
 use Rattle.rules.specs.declared.Side.{Side}
 use Rattle.varint.specs.Number.{readNumber}
@@ -41,11 +41,8 @@ two-faults =
       moved = ∣ List·Permᴰ·swap refl refl ∣₁;
     }
 
-first-counts : (s : Side) → (read s (noFamily ++ leftOver) ≡ refused 2) × (read s (leftOver ++ noFamily) ≡ refused 1)
-unfolding all readNumber ids otherKinds kinds kindAt placeOf fits illegal noValues upd readParameter receive step parse read noFamily leftOver
-first-counts s = (refl, refl)
-
 pub rearrangement : Rearrangement
+unfolding all readNumber ids otherKinds kinds kindAt placeOf fits illegal noValues upd readParameter receive step parse read noFamily leftOver
 rearrangement =
     record {
       accepts = rearranged;
@@ -53,5 +50,5 @@ rearrangement =
       asLong = same-length;
       refuses = refused-too;
       twoFaults = two-faults;
-      firstCounts = first-counts;
+      firstCounts = λ s. (refl, refl);
     }
