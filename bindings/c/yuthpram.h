@@ -131,7 +131,8 @@ uint8_t yuthpram_default(uint8_t *record, size_t record_len);
 uint8_t yuthpram_check(const uint8_t *record, size_t record_len, uint8_t side);
 
 /* Reads an extension for the side that reads. Refuses 1 or 2, then 5 if record_len is below 303. A second copy of a known parameter
- * is 1. The order is the sender's: the same whole parameters in another one give the same record. */
+ * is 1. What is accepted is accepted in every order of its whole parameters, with the same record; which fault of a refused one is found
+ * depends on the order. */
 uint8_t yuthpram_read(uint8_t side, const uint8_t *src, size_t src_len, uint8_t *record, size_t record_len);
 
 /* Whether an order is a permutation of 0 to 20. Refuses 6. */

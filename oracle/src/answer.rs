@@ -27,10 +27,12 @@ pub enum Op {
     Length,
     /// the Rust reads an extension that it accepts, the library the same whole parameters in another order
     Rearranged,
+    /// the same, but tidied
+    TidyRearranged,
 }
 
 impl Op {
-    pub const ALL: [(Op, &'static str); 17] = [
+    pub const ALL: [(Op, &'static str); 18] = [
         (Op::NumberSize, "number_size"),
         (Op::NumberRead, "number_read"),
         (Op::NumberWrite, "number_write"),
@@ -48,6 +50,7 @@ impl Op {
         (Op::CheckOrder, "check_order"),
         (Op::Length, "length"),
         (Op::Rearranged, "rearranged"),
+        (Op::TidyRearranged, "tidy rearranged"),
     ];
 }
 
@@ -59,7 +62,7 @@ impl Op {
 /// | number_read, cid_read | | the input | | | |
 /// | cid_write | | an ID's image | | | |
 /// | read, tidy | side | the extension | | | |
-/// | rearranged | side | the extension | the same in another order | | |
+/// | rearranged, tidy rearranged | side | the extension | the same in another order | | |
 /// | check | side | a record's image | | | |
 /// | write, issue_limit, length | | a record's image | | | |
 /// | resumption | | a record's image | the cached one's | | |
@@ -88,9 +91,14 @@ impl<'a> Case<'a> {
         Case { declined, ..self }
     }
 
-    /// Of a rearranged extension: the other order, to be read.
-    pub fn other_order(&self) -> Self {
-        Case::new(Op::Read, self.number, self.y, self.room)
+    /// Of a rearranged extension: the other order, to be read or tidied.
+    pub fn other_order(&self) -> Option<Self> {
+        let op = match self.op {
+            Op::Rearranged => Op::Read,
+            Op::TidyRearranged => Op::Tidy,
+            _ => return None,
+        };
+        Some(Case::new(op, self.number, self.y, self.room))
     }
 }
 

@@ -37,7 +37,7 @@ impl Tally {
     fn line(&self, name: &str) {
         let document = self.cases - self.quinn - self.request_02;
         println!(
-            "{name:<14}{:>12}{:>14}{document:>16}{:>15}{:>12}{:>13}",
+            "{name:<16}{:>12}{:>14}{document:>16}{:>15}{:>12}{:>13}",
             self.cases, self.quinn, self.request_02, self.accepted, self.differences
         );
     }
@@ -57,15 +57,17 @@ fn show(c: &Case, want: &Answer, got: &library::Called) {
     }
 }
 
-/// A difference planted on the library's side: in `read`, as if 20, the largest ack_delay_exponent, were 19; in each other operation, one
-/// bit of one answer, that of the 100th call that was accepted (the first of `default`, which has few). In `write` it is a bit of the byte
-/// before the output, in `tidy` of the byte behind it.
+/// A difference planted on the library's side: in `read`, as if 20, the largest ack_delay_exponent, were 19; of a rearranged extension, as if the
+/// parameter at its front had to stay there; in each other operation, one bit of one answer, that of the 100th call that was accepted (the first
+/// of `default`, which has few). In `write` it is a bit of the byte before the output, in `tidy` of the byte behind it.
 fn plant(c: &Case, nth: u64, got: &mut library::Called) {
     let now = nth == if c.op == Op::Default { 1 } else { 100 };
     match c.op {
         _ if got.code != 0 => {}
         Op::Read if got.output()[64..72] == 20u64.to_be_bytes() => *got = library::refused(2),
         Op::Read => {}
+        Op::Rearranged | Op::TidyRearranged if !c.y.starts_with(inputs::parameters(c.x)[0].bytes) => *got = library::refused(1),
+        Op::Rearranged | Op::TidyRearranged => {}
         _ if !now => {}
         Op::NumberSize | Op::Issue | Op::Length => got.number ^= 1,
         Op::Resume | Op::Check | Op::CheckOrder => got.code ^= 1,
@@ -103,7 +105,7 @@ const PARTS: [(&str, fn(&mut Suite)); 24] = [
     ("rearrangements", |s| s.rearrangements(5_000, 100)),
 ];
 
-/// How many extensions of a part were rearranged; with unknown parameters; with unknown ones of which an identifier or a length is in a longer
+/// How many other orders a part had read; how many with unknown parameters; with unknown ones of which an identifier or a length is in a longer
 /// form than it needs.
 #[derive(Default, Clone, Copy)]
 struct Shuffles {
@@ -113,7 +115,17 @@ struct Shuffles {
 }
 
 impl Shuffles {
-    fn add(&mut self, x: &[u8]) {
+    fn add(&mut self, n: &Shuffles) {
+        self.all += n.all;
+        self.unknown += n.unknown;
+        self.long += n.long;
+    }
+
+    fn line(&self, name: &str) {
+        println!("{name:<16}{:>12}{:>18}{:>26}", self.all, self.unknown, self.long);
+    }
+
+    fn count(&mut self, x: &[u8]) {
         let all = inputs::parameters(x);
         let mut unknown = all.iter().filter(|p| p.is_unknown()).peekable();
         self.all += 1;
@@ -148,19 +160,22 @@ pub fn compare(planted: bool) {
                 show(c, &want, &got);
             }
         }
+        if c.other_order().is_some() {
+            assert_eq!(want.code, 0, "only what is accepted is rearranged");
+        }
         if c.op == Op::Rearranged {
-            shuffles[part.get()].add(c.y);
+            shuffles[part.get()].count(c.y);
         }
         want.code == 0
     };
-    let mut suite = Suite { d: Dice(SEED), orders: Some(Dice(SEED)), sink: &mut sink };
+    let mut suite = Suite { d: Dice(SEED), shuffles: Dice(!SEED), sink: &mut sink };
     for (i, (_, run)) in PARTS.iter().enumerate() {
         part.set(i);
         run(&mut suite);
     }
 
     println!(
-        "{:<14}{:>12}{:>14}{:>16}{:>15}{:>12}{:>13}",
+        "{:<16}{:>12}{:>14}{:>16}{:>15}{:>12}{:>13}",
         "operation", "cases", "put to quinn", "by document 01", "by request 02", "accepted", "differences"
     );
     let mut sum = Tally::default();
@@ -170,10 +185,13 @@ pub fn compare(planted: bool) {
     }
     sum.line("all");
     println!("skipped in the run against quinn, because they repeat grease_quic_bit or min_ack_delay: {}", sum.request_02);
-    println!("{:<14}{:>12}{:>18}{:>26}", "rearranged of", "cases", "with unknown ones", "of these, in longer forms");
+    println!("{:<16}{:>12}{:>18}{:>26}", "rearranged of", "orders", "with unknown ones", "of these, in longer forms");
+    let mut sum = Shuffles::default();
     for ((name, _), n) in PARTS.iter().zip(&shuffles).filter(|(_, n)| n.all > 0) {
-        println!("{name:<14}{:>12}{:>18}{:>26}", n.all, n.unknown, n.long);
+        n.line(name);
+        sum.add(n);
     }
+    sum.line("all");
     println!("seed {SEED:#x}, {:.1} seconds", start.elapsed().as_secs_f64());
     let found = tallies.iter().filter(|t| t.differences > 0).count();
     if planted {

@@ -125,10 +125,11 @@ fn tidy_twice(c: &Case) -> Called {
 }
 
 pub fn call(c: &Case) -> Called {
-    match c.op {
-        Op::TidyTwice => return tidy_twice(c),
-        Op::Rearranged => return call(&c.other_order()),
-        _ => {}
+    if c.op == Op::TidyTwice {
+        return tidy_twice(c);
+    }
+    if let Some(other) = c.other_order() {
+        return call(&other);
     }
     let (mut bytes, mut numbers) = (FILL, [UNTOUCHED; 5]);
     let settings: Vec<u64> = if c.op == Op::New { eights(c.x) } else { Vec::new() };
@@ -146,7 +147,7 @@ pub fn call(c: &Case) -> Called {
             Op::CidRead => yuthpram_cid_read(x, n, out, room, count),
             Op::CidWrite => yuthpram_cid_write(x, n, out, room, count),
             Op::Default => yuthpram_default(out, room),
-            Op::Read | Op::Rearranged => yuthpram_read(side, x, n, out, room),
+            Op::Read => yuthpram_read(side, x, n, out, room),
             Op::Write => yuthpram_write(x, n, out, room, count),
             Op::New => yuthpram_new(
                 settings.as_ptr(),
@@ -167,6 +168,7 @@ pub fn call(c: &Case) -> Called {
             Op::Tidy | Op::TidyTwice => yuthpram_tidy(side, x, n, out, room, count),
             Op::CheckOrder => yuthpram_check_order(x, n),
             Op::Length => yuthpram_length(x, n, count),
+            Op::Rearranged | Op::TidyRearranged => unreachable!("the other order was called for"),
         }
     };
     // The value of number_read goes where bytes go.

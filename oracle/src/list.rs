@@ -171,6 +171,13 @@ fn entry(c: &Case) -> Vec<u8> {
     out
 }
 
+/// The case as it is recorded: of a rearranged extension the other order, to which quinn has to give the same answer.
+fn recorded<'a>(c: &Case<'a>) -> Case<'a> {
+    let Some(other) = c.other_order() else { return *c };
+    assert_eq!(due::answer(c).due(), due::answer(&other).due());
+    other
+}
+
 pub fn record() {
     // every `step`th case of each part
     let parts: [(usize, fn(&mut Suite)); 23] = [
@@ -196,17 +203,14 @@ pub fn record() {
         (1, |s| s.building_refused(64)),
         (2, |s| s.resumption(112)),
         (3, |s| s.declined(34)),
-        (1, |s| {
-            s.orders = Some(Dice(SEED));
-            s.rearrangements(20, 4)
-        }),
+        (1, |s| s.rearrangements(20, 4)),
     ];
     let (mut entries, mut bytes, mut requested) = (0, 0, 0);
     for (step, part) in parts {
         let mut turn = 0;
         let mut sink = |c: &Case| {
             if turn % step == 0 {
-                let e = if c.op == Op::Rearranged { entry(&c.other_order()) } else { entry(c) };
+                let e = entry(&recorded(c));
                 stdout().write_all(&e).unwrap();
                 entries += 1;
                 bytes += e.len();
@@ -215,7 +219,7 @@ pub fn record() {
             turn += 1;
             false
         };
-        part(&mut Suite { d: Dice(SEED), orders: None, sink: &mut sink });
+        part(&mut Suite { d: Dice(SEED), shuffles: Dice(!SEED), sink: &mut sink });
     }
     eprintln!("{entries} cases, {requested} of them by request 02, {bytes} bytes");
 }

@@ -102,7 +102,7 @@ pub fn answer(c: &Case) -> Answer {
                 Err(e) => refusal(e),
             }
         }
-        Op::Tidy | Op::TidyTwice => match read(c.number, c.x) {
+        Op::Tidy | Op::TidyTwice | Op::TidyRearranged => match read(c.number, c.x) {
             Ok(p) => stored(|out| p.write(out)),
             Err(e) => refusal(e),
         },

@@ -12,9 +12,9 @@ use crate::{
 
 pub struct Suite<'a> {
     pub d: Dice,
-    /// Draws other orders of the extensions that are accepted, apart from everything else that is drawn; none: they are not rearranged.
-    pub orders: Option<Dice>,
-    /// Takes a case, and says whether it is to be accepted.
+    /// Draws the other orders of extensions, apart from everything else.
+    pub shuffles: Dice,
+    /// Takes a case, and says whether its extension is to be rearranged too.
     pub sink: &'a mut dyn FnMut(&Case) -> bool,
 }
 
@@ -135,9 +135,9 @@ impl Suite<'_> {
         });
     }
 
-    /// An extension that a side accepts, with up to two unknown parameters behind it: the whole parameters of both in another order.
+    /// An extension that a side accepts, with up to two unknown parameters behind it: all its whole parameters in another order.
     fn rearranged(&mut self, side: u64, x: &[u8]) {
-        let Some(d) = &mut self.orders else { return };
+        let d = &mut self.shuffles;
         let mut x = x.to_vec();
         for _ in 0..d.below(3) {
             let id = inputs::unknown(d);
@@ -149,18 +149,23 @@ impl Suite<'_> {
         let y = wholes.concat();
         if y != x {
             (self.sink)(&Case { y: &y, ..Case::new(Op::Rearranged, side, &x, RECORD) });
+            (self.sink)(&Case { y: &y, ..Case::new(Op::TidyRearranged, side, &x, MOST) });
         }
     }
 
-    /// What real clients sent, and `n` extensions that a client accepts, each in `orders` other orders.
-    pub fn rearrangements(&mut self, n: usize, orders: usize) {
+    /// What real clients sent, and `n` extensions that a client accepts, each shuffled `times` times. And two faults, an address with no family
+    /// and a byte left over, in both orders: the first counts.
+    pub fn rearrangements(&mut self, n: usize, times: usize) {
         let real = inputs::real().into_iter().map(|x| (1, x));
         let good: Vec<_> = (0..n).map(|_| (0, self.good())).collect();
         for (side, x) in real.chain(good) {
-            for _ in 0..orders {
+            for _ in 0..times {
                 self.rearranged(side, &x);
             }
         }
+        let faults = [format!("0d2a{}01aa{}", "00".repeat(24), "bb".repeat(16)), "01020500".to_owned()].map(|x| inputs::unhex(&x));
+        self.extension(&faults.concat());
+        self.extension(&[&faults[1][..], &faults[0]].concat());
     }
 
     /// Every `step`th set of the known parameters.

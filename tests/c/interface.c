@@ -215,7 +215,8 @@ static size_t parameter(uint8_t *at, const uint8_t *id, size_t id_len, uint8_t b
     return id_len + 1 + len;
 }
 
-// The known parameters, each with a value that a client accepts; behind them two unknown ones, the last with its identifier in eight bytes.
+// The known parameters, each with a value that a client accepts; behind them an unknown one twice, the second time with its identifier in eight
+// bytes.
 enum { KNOWN = 20, ALL = 22 };
 static const struct { size_t id_len; uint8_t id[8], byte; size_t len; } sample[] = {
     { 1, { 0x01 }, 2, 1 },    { 1, { 0x03 }, 0xc1, 8 }, { 1, { 0x04 }, 2, 1 },  { 1, { 0x05 }, 2, 1 },       { 1, { 0x06 }, 2, 1 },
@@ -271,7 +272,8 @@ static void any_order(void)
             memcpy(tidied, out, stored = count);
         CHECK(count == stored && memcmp(out, tidied, stored) == 0 && kept(stored));
     }
-    CHECK(get(record, 0) == 2 && record[89] == 1);
+    // all but the unknown ones, 16 bytes, and active_connection_id_limit at its default, 3
+    CHECK(get(record, 0) == 2 && record[89] == 1 && stored == 144);
 }
 
 // A permutation of the places: the last place first.

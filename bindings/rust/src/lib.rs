@@ -152,7 +152,7 @@ impl TransportParameters {
     /// // grease_quic_bit; a second copy is refused, as that of every known parameter is.
     /// assert!(TransportParameters::read(Side::Client, &[0x6a, 0xb2, 0x00]).is_ok());
     /// assert_eq!(TransportParameters::read(Side::Client, &[0x6a, 0xb2, 0x00, 0x6a, 0xb2, 0x00]), Err(Error::Malformed));
-    /// // The order is the sender's: the same parameters in another one are the same record.
+    /// // What is accepted is accepted in every order of its parameters, with the same record.
     /// let (grease, idle) = ([0x6a, 0xb2, 0x00], [0x01, 0x01, 0x05]);
     /// let read = TransportParameters::read(Side::Client, &[grease, idle].concat())?;
     /// assert_eq!(read.max_idle_timeout, 5u32.into());

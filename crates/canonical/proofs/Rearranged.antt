@@ -2,7 +2,7 @@
 use Prim.Native.Nat.{ℕ}
 use mathlib.Core.Path.{_≡_, refl, ap, sym, _∙_}
 use mathlib.Core.List.{List, [], _∷_, _++_, List·Permᴰ·swap}
-use lib.ListN.{replicate}
+use lib.ListN.{drop}
 use Rattle.refusal.specs.Outcome.{accepted, all}
 use Rattle.record.specs.declared.TransportParameters.{TransportParameters}
 use Rattle.rules.specs.declared.Side.{Side}
@@ -17,27 +17,25 @@ use Rattle.reader.proofs.Rearranged.{rearranged, refused-too}
 use Rattle.tidy.specs.Tidying.{tidyFrom, tidy}
 use Rattle.canonical.specs.Rearrangement.{noFamily, leftOver, Rearrangement}
 
-same-tidied : (s : Side) (e e′ out : List ℕ) (r : TransportParameters) → Rearranged e e′ → read s e ≡ accepted r → tidy s e′ out ≡ tidy s e out
+tidied-alike : (s : Side) (e e′ out : List ℕ) (r : TransportParameters) → Rearranged e e′ → read s e ≡ accepted r → tidy s e′ out ≡ tidy s e out
 unfolding tidy
-same-tidied s e e′ out r i k = ap (λ o. tidyFrom o out) (rearranged s e e′ r i k ∙ sym k)
+tidied-alike s e e′ out r i k = ap (λ o. tidyFrom o out) (rearranged s e e′ r i k ∙ sym k)
 
 no-family : Whole noFamily
 unfolding readNumber readParameter noFamily
-no-family = record { id = 0x0d; v = replicate 24 0x00 ++ (0x01 ∷ 0xaa ∷ replicate 16 0xbb); is = refl }
+no-family = record { id = 0x0d; v = drop 2 noFamily; is = refl }
 
 left-over : Whole leftOver
 unfolding readNumber readParameter leftOver
-left-over = record { id = 0x01; v = 0x05 ∷ 0x00 ∷ []; is = refl }
+left-over = record { id = 0x01; v = drop 2 leftOver; is = refl }
 
 two-faults : Rearranged (noFamily ++ leftOver) (leftOver ++ noFamily)
 unfolding noFamily leftOver
 two-faults =
     record {
-      ws = noFamily ∷ leftOver ∷ [];
+      composed = record { ws = noFamily ∷ leftOver ∷ []; is = refl; each = (no-family, (left-over, tt)) };
       ws′ = leftOver ∷ noFamily ∷ [];
-      is = refl;
       is′ = refl;
-      each = (no-family, (left-over, tt));
       moved = ∣ List·Permᴰ·swap refl refl ∣₁;
     }
 
@@ -45,10 +43,10 @@ pub rearrangement : Rearrangement
 unfolding all readNumber ids otherKinds kinds kindAt placeOf fits illegal noValues upd readParameter receive step parse read noFamily leftOver
 rearrangement =
     record {
-      accepts = rearranged;
-      tidies = same-tidied;
-      asLong = same-length;
-      refuses = refused-too;
+      sameRecord = rearranged;
+      tidiesAlike = tidied-alike;
+      sameLength = same-length;
+      stillRefused = refused-too;
       twoFaults = two-faults;
-      firstCounts = λ s. (refl, refl);
+      firstFault = λ s. (refl, refl);
     }

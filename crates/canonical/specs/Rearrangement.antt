@@ -20,13 +20,13 @@ leftOver = 0x01 ∷ 0x02 ∷ 0x05 ∷ 0x00 ∷ []
 
 pub record Rearrangement : Type 0 where
   -- e′ has the whole parameters of e in another order: the side that accepts e accepts e′, with the same record
-  pub accepts : (s : Side) (e e′ : List ℕ) (r : TransportParameters) → Rearranged e e′ → read s e ≡ accepted r → read s e′ ≡ accepted r
+  pub sameRecord : (s : Side) (e e′ : List ℕ) (r : TransportParameters) → Rearranged e e′ → read s e ≡ accepted r → read s e′ ≡ accepted r
   -- so tidying them for that side gives the same answer and stores the same bytes
-  pub tidies : (s : Side) (e e′ out : List ℕ) (r : TransportParameters) → Rearranged e e′ → read s e ≡ accepted r → tidy s e′ out ≡ tidy s e out
-  -- and they are as long
-  pub asLong : (e e′ : List ℕ) → Rearranged e e′ → length e′ ≡ length e
-  -- what a side refuses it refuses in every order
-  pub refuses : (s : Side) (e e′ : List ℕ) (n : ℕ) → Rearranged e e′ → read s e ≡ refused n → (n′ : ℕ) × (read s e′ ≡ refused n′)
-  -- but not by the same number: of two faults the first from the front counts, and an address with neither family is 2
+  pub tidiesAlike : (s : Side) (e e′ out : List ℕ) (r : TransportParameters) → Rearranged e e′ → read s e ≡ accepted r → tidy s e′ out ≡ tidy s e out
+  -- and they have the same length
+  pub sameLength : (e e′ : List ℕ) → Rearranged e e′ → length e′ ≡ length e
+  -- refused ones are outside the request. Whole parameters that a side refuses it refuses in every order,
+  pub stillRefused : (s : Side) (e e′ : List ℕ) (n : ℕ) → Rearranged e e′ → read s e ≡ refused n → (n′ : ℕ) × (read s e′ ≡ refused n′)
+  -- but not always by the same number: of two faults the first from the front counts
   pub twoFaults : Rearranged (noFamily ++ leftOver) (leftOver ++ noFamily)
-  pub firstCounts : (s : Side) → (read s (noFamily ++ leftOver) ≡ refused 2) × (read s (leftOver ++ noFamily) ≡ refused 1)
+  pub firstFault : (s : Side) → (read s (noFamily ++ leftOver) ≡ refused 2) × (read s (leftOver ++ noFamily) ≡ refused 1)

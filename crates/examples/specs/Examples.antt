@@ -1,4 +1,4 @@
--- The worked examples (a) to (n), some lengths and second copies: for each a side, an operation, its input and the outcome. The definitions are
+-- The worked examples (a) to (n), some lengths, second copies and other orders: for each a side, an operation, its input and the outcome. The definitions are
 -- those that the contracts of reading, tidying, writing and the length cite.
 use Prim.Native.Nat.{ℕ}
 use mathlib.Core.Path.{_≡_}
@@ -91,6 +91,16 @@ delayed x = 0xc0 ∷ 0x00 ∷ 0x00 ∷ 0x00 ∷ 0xff ∷ 0x04 ∷ 0xde ∷ 0x1b 
 abbrev pub addressed : ℕ → List ℕ
 addressed x = 0x0d ∷ 0x2a ∷ (replicate 24 x ++ (0x01 ∷ 0xaa ∷ replicate 16 0xbb))
 
+-- the parameter of (b), an unknown one whose identifier and length are longer than needed, and grease_quic_bit
+abbrev pub idle : List ℕ
+idle = 0x01 ∷ 0x04 ∷ 0x80 ∷ 0x00 ∷ 0x75 ∷ 0x30 ∷ []
+
+abbrev pub unknown : List ℕ
+unknown = 0x40 ∷ 0x1b ∷ 0x40 ∷ 0x01 ∷ 0xaa ∷ []
+
+abbrev pub grease : List ℕ
+grease = 0x6a ∷ 0xb2 ∷ 0x00 ∷ []
+
 unfoldable pub examples : List Example
 examples =
     -- (a)
@@ -131,9 +141,12 @@ examples =
     ∷ measuring defaultRecord (accepted 0)
     ∷ measuring (plain (numbers bound 65527 25)) (refused 7)
     ∷  -- second copies (request 02): grease_quic_bit, min_ack_delay, and a preferred address that would be 2 by itself; unknown ones are skipped
-    reading Client (0x6a ∷ 0xb2 ∷ 0x00 ∷ 0x6a ∷ 0xb2 ∷ 0x00 ∷ []) (refused 1)
+    reading Client (grease ++ grease) (refused 1)
     ∷ reading Client (delayed 5 ++ delayed 6) (refused 1)
     ∷ reading Client (addressed 1 ++ addressed 0) (refused 1)
     ∷ reading Client (addressed 0) (refused 2)
     ∷ reading Client (0x1b ∷ 0x00 ∷ 0x1b ∷ 0x00 ∷ []) (accepted defaultRecord)
+    ∷  -- other orders (request 03): (b), an unknown parameter in a longer form and grease_quic_bit
+    reading Client (idle ++ (unknown ++ grease)) (accepted (with (numbers 30000 65527 25) false true Absent noOrder))
+    ∷ reading Client (grease ++ (idle ++ unknown)) (accepted (with (numbers 30000 65527 25) false true Absent noOrder))
     ∷ []

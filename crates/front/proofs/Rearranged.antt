@@ -1,6 +1,6 @@
 -- Whole parameters in another order. Assumes nothing.
 --     still-whole     they are whole
---     same-length     and together as long
+--     same-length     and have the same length
 use Prim.Native.Nat.{ℕ}
 use mathlib.Core.Path.{_≡_, refl, ap, sym, _∙_, subst}
 use mathlib.Core.List.{List, List·Permᴰ, List·Permᴰ·nil, List·Permᴰ·cons, List·Permᴰ·swap, List·Permᴰ·trans}
@@ -23,4 +23,4 @@ lengths (List·Permᴰ·swap p q) = rw (p, q) (simp length-append (omega arith))
 lengths (List·Permᴰ·trans d t) = lengths t ∙ lengths d
 
 pub same-length : (e e′ : List ℕ) → Rearranged e e′ → length e′ ≡ length e
-same-length e e′ i = ap length (sym (i .is′)) ∙ ∥∥₁-elim (i .moved) (ℕ-set _ _) lengths ∙ ap length (i .is)
+same-length e e′ i = ap length (sym (i .is′)) ∙ ∥∥₁-elim (i .moved) (ℕ-set _ _) lengths ∙ ap length (i .composed .is)

@@ -41,15 +41,13 @@ pub record Stuffed (e e′ : List ℕ) : Type 0 where
   pub is′ : concat ws′ ≡ e′
   pub put : Inserted ws ws′
 
--- bytes, and the same whole parameters in another order. `Perm` is the kit's rearrangement of a list: the first left where it is, the first two
--- exchanged, one such change after another
+-- bytes that are whole parameters, and the same ones in another order. `Perm` is the kit's rearrangement of a list: the rest rearranged behind the
+-- same first one, the first two exchanged, or one rearrangement after another; so the same elements, each as often
 pub record Rearranged (e e′ : List ℕ) : Type 0 where
-  pub ws : List (List ℕ)
+  pub composed : Composed e
   pub ws′ : List (List ℕ)
-  pub is : concat ws ≡ e
   pub is′ : concat ws′ ≡ e′
-  pub each : Wholes ws
-  pub moved : Perm ws ws′
+  pub moved : Perm (composed .ws) ws′
 
 -- whole parameters a, then w, then b; and a second copy u of w, which is a known one. Its value may be any
 pub record Repeated (a w b u : List ℕ) : Type 0 where

@@ -4,13 +4,13 @@
 use Prim.Native.Nat.{ℕ, zero, suc, _+_, _-_, _%_, _≤_, _<_}
 use mathlib.Core.Path.{_≡_, refl, ap, sym, _∙_, subst}
 use mathlib.Core.List.{List, [], _∷_}
-use mathlib.Core.Option.{Option, none, some}
+use mathlib.Core.Option.{none, some}
 use mathlib.Core.Bool.{Bool, true, false}
 use native.Mathlib.Omega.{arith}
 use lib.ListN.{length, getD, take, drop, set, length-drop, drop-of-length-le}
 use lib.Seq.{getD-set-same, getD-set-other}
 use lib.Dec.{eqb, ltb}
-use borrow.Author.Tests.{eq-eqb, ne-eqb, eqb-true, eqb-false, ltb-true, ltb-false}
+use borrow.Author.Tests.{eqb-true, eqb-false, ltb-true, ltb-false}
 use Rattle.refusal.specs.Outcome.{Result, accepted, refused, pick, andThen}
 use Rattle.marks.specs.Mark.{marked, mark}
 use Rattle.marks.proofs.Laws.{marked-same, marked-other, unmarked}
@@ -26,7 +26,7 @@ use Rattle.index.specs.Index.{Found, nothing, keep, note, between, indexIn, ind
 use Rattle.index.proofs.Sound.{initial-at, start-sound, keep-sound, start-kept, length-kept}
 use Rattle.reader.specs.Reading.{receive, step, parseIn, parse}
 use Rattle.reader.specs.Kept.{valueAt}
-use Rattle.reader.proofs.Run.{parse-nil, parse-front}
+use Rattle.reader.proofs.Run.{parse-nil, parse-front, upd-here, upd-there}
 
 pub record Agrees (s : List ℕ) (f : Found) (l : Values) : Type 0 where
   pub met : (p : ℕ) → isSome (l p) ≡ marked (f .0) p
@@ -41,14 +41,6 @@ start-agrees s =
       number-at = λ p k. initial-at p;
       value-at = λ p n. rw (unmarked p);
     }
-
-upd-here : (l : Values) (p : ℕ) (x : Option (List ℕ)) → upd l p x p ≡ x
-unfolding upd
-upd-here l p x = rw (eq-eqb p p refl)
-
-upd-there : (l : Values) (p q : ℕ) (x : Option (List ℕ)) → (q ≡ p → ⊥) → upd l p x q ≡ l q
-unfolding upd
-upd-there l p q x n = rw (ne-eqb q p n)
 
 -- a value more
 module _ (s : List ℕ) (a e : ℕ) (ae : a ≤ e) (el : e ≤ length s) (f : Found) (i : Sound s f) (p x : ℕ) (b : Bool) (h : p < places)

@@ -1,5 +1,6 @@
 -- What the layers above need of reading. Assumes nothing.
 --     parse-concat        whole parameters are received one after another
+--     then-assoc          three operations one after another
 --     parse-append        bytes behind whole parameters are read after them
 --     accepts             what an accepted extension shows
 --     accepted-legal      the record is legal for the side that read it, and has neither order nor reserved parameter
@@ -42,7 +43,7 @@ parse-concat (w ∷ ws) h l =
     parse-whole l w (concat ws) (h .0 .id) (h .0 .v) (h .0 .is)
     ∙ ap (andThen (step l (h .0 .id) (h .0 .v))) (fun-ext (parse-concat ws (h .1)))
 
-then-assoc : {E A B C : Type 0} (o : Result E A) (f : A → Result E B) (g : B → Result E C)
+pub then-assoc : {E A B C : Type 0} (o : Result E A) (f : A → Result E B) (g : B → Result E C)
     → andThen o (λ a. andThen (f a) g) ≡ andThen (andThen o f) g
 then-assoc (accepted a) f g = refl
 then-assoc (refused e) f g = refl

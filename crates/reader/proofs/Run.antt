@@ -4,10 +4,10 @@
 --     parse-whole      a whole parameter, whatever follows
 --     step-unknown     an unknown parameter is skipped
 --     step-copy        a second copy is refused, whatever its value
---     step-stored      a value that fits is stored at a place that is free
+--     step-stored      a value that fits and is not illegal is stored at a place that is free
 --     stepped          what a step that was accepted did
 --     skipped          unknown whole parameters anywhere change nothing
---     upd-at           values with one place replaced
+--     upd-here, upd-there, upd-at    values with one place replaced: at that place, at another, as a whole
 use Prim.Native.Nat.{ℕ, zero, suc, _≤_, _<_}
 use mathlib.Core.Path.{_≡_, refl, ap, sym, _∙_, fun-ext}
 use mathlib.Core.List.{List, [], _∷_, _++_}
@@ -16,7 +16,7 @@ use mathlib.Core.Bool.{Bool, true, false}
 use native.Mathlib.Omega.{arith}
 use lib.ListN.{length}
 use lib.Dec.{eqb, ltb}
-use borrow.Author.Tests.{le-ltb, lt-ltb, ltb-true, ltb-false, eqb-true, eqb-false}
+use borrow.Author.Tests.{le-ltb, lt-ltb, ltb-true, ltb-false, eq-eqb, ne-eqb, eqb-true, eqb-false}
 use Rattle.refusal.specs.Outcome.{Result, accepted, refused, pick, andThen}
 use Rattle.catalogue.specs.Catalogue.{places, placeOf, kindAt, fits, illegal}
 use Rattle.record.specs.Values.{Values, isSome, upd}
@@ -101,6 +101,14 @@ skipped (unknown {w} {ws} {ws′} h k i) l =
     rw (parse-whole l w (concat ws′) (h .id) (h .v) (h .is), step-unknown l (h .id) (h .v) k) (ih l)
 
 -- one place replaced
+pub upd-here : (l : Values) (p : ℕ) (x : Option (List ℕ)) → upd l p x p ≡ x
+unfolding upd
+upd-here l p x = rw (eq-eqb p p refl)
+
+pub upd-there : (l : Values) (p q : ℕ) (x : Option (List ℕ)) → (q ≡ p → ⊥) → upd l p x q ≡ l q
+unfolding upd
+upd-there l p q x n = rw (ne-eqb q p n)
+
 pub upd-at : (l m : Values) (p : ℕ) (x : Option (List ℕ)) → m p ≡ x → ((q : ℕ) → (q ≡ p → ⊥) → m q ≡ l q) → upd l p x ≡ m
 unfolding upd
 upd-at l m p x e f = fun-ext λ q. go q (eqb q p) refl
