@@ -1,5 +1,5 @@
--- The worked examples (a) to (n), some lengths, second copies and other orders: for each a side, an operation, its input and the outcome. The definitions are
--- those that the contracts of reading, tidying, writing and the length cite.
+-- The worked examples (a) to (n), some lengths, second copies and other orders: for each a side, an operation, its input and the outcome. The
+-- definitions are those that the contracts of reading, tidying, writing and the length cite.
 use Prim.Native.Nat.{ℕ}
 use mathlib.Core.Path.{_≡_}
 use mathlib.Core.List.{List, [], _∷_, _++_}
