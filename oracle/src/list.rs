@@ -174,7 +174,8 @@ fn entry(c: &Case) -> Vec<u8> {
 /// The case as it is recorded: of a rearranged extension the other order, to which quinn has to give the same answer.
 fn recorded<'a>(c: &Case<'a>) -> Case<'a> {
     let Some(other) = c.other_order() else { return *c };
-    assert_eq!(due::answer(c).due(), due::answer(&other).due());
+    let (a, b) = (due::answer(c), due::answer(&other));
+    assert_eq!((a.code, a.number, a.due()), (b.code, b.number, b.due()));
     other
 }
 
