@@ -1,7 +1,8 @@
 /* Transport parameters of QUIC (RFC 9000, RFC 9221, RFC 9287, draft-ietf-quic-ack-frequency-08): the C interface of Yuthpram.
  *
  * Every function takes any bytes, numbers and lengths, allocates nothing, keeps nothing, and returns YUTHPRAM_OK, which is 0, or the
- * number of a refusal. A call that is refused changes no byte behind its pointers.
+ * number of a refusal. A call that is refused changes no byte behind its pointers. yuthpram_order_fault alone refuses nothing: 6 is its answer,
+ * and comes with a position.
  *
  * A pointer and its length name a slice, and the pointer may be null if the length is 0. A pointer to a single number is never null. Inputs
  * and outputs of one call do not overlap.
@@ -137,6 +138,11 @@ uint8_t yuthpram_read(uint8_t side, const uint8_t *src, size_t src_len, uint8_t 
 
 /* Whether an order is a permutation of 0 to 20. Refuses 6. */
 uint8_t yuthpram_check_order(const uint8_t *order, size_t order_len);
+
+/* What is wrong with an order of any length: stores the position, from 0, of the first entry that is over 20 or repeats an earlier one, or
+ * order_len if entries are only missing, and returns INVALID_ORDER. Returns OK and stores nothing exactly for a permutation of 0 to 20. Of more than 21
+ * entries one of the first 22 is at fault, and those behind them change nothing. */
+uint8_t yuthpram_order_fault(const uint8_t *order, size_t order_len, size_t *position);
 
 /* Writes the extension of a record, in its order or, without one, in catalogue order. Refuses 7, 6, then 5. */
 uint8_t yuthpram_write(const uint8_t *record, size_t record_len, uint8_t *out, size_t out_len, size_t *count);

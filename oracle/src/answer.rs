@@ -1,6 +1,7 @@
 //! A case is one call, all in bytes and numbers; an answer is what came back. Both programs take the same cases.
 
-/// The operations. Those from `Check` on have no counterpart in the Rust: all but `CheckOrder` are held to what its operations give.
+/// The operations. Those from `Check` on have no counterpart in the Rust: all but `CheckOrder` and `OrderFault` are
+/// held to what its operations give.
 #[derive(Clone, Copy, PartialEq, Eq, Debug)]
 #[repr(u8)]
 pub enum Op {
@@ -21,10 +22,12 @@ pub enum Op {
     Tidy,
     /// the same, but the library tidies twice
     TidyTwice,
-    /// takes an order; the one operation that is never put to quinn
+    /// takes an order; with `OrderFault` the operations that are never put to quinn
     CheckOrder,
     /// how many bytes the Rust writes, in the record's order; in catalogue order if that is no permutation, which the length does not look at
     Length,
+    /// takes an order of any length
+    OrderFault,
     /// the Rust reads an extension that it accepts, the library the same whole parameters in another order
     Rearranged,
     /// the same, but tidied
@@ -32,7 +35,7 @@ pub enum Op {
 }
 
 impl Op {
-    pub const ALL: [(Op, &'static str); 18] = [
+    pub const ALL: [(Op, &'static str); 19] = [
         (Op::NumberSize, "number_size"),
         (Op::NumberRead, "number_read"),
         (Op::NumberWrite, "number_write"),
@@ -49,6 +52,7 @@ impl Op {
         (Op::TidyTwice, "tidy twice"),
         (Op::CheckOrder, "check_order"),
         (Op::Length, "length"),
+        (Op::OrderFault, "order_fault"),
         (Op::Rearranged, "rearranged"),
         (Op::TidyRearranged, "tidy rearranged"),
     ];
@@ -67,7 +71,7 @@ impl Op {
 /// | write, issue_limit, length | | a record's image | | | |
 /// | resumption | | a record's image | the cached one's | | |
 /// | new | the draw | twelve settings, eight bytes each | the ID's image | payload | order |
-/// | check_order | | the order | | | |
+/// | check_order, order_fault | | the order | | | |
 #[derive(Clone, Copy)]
 pub struct Case<'a> {
     pub op: Op,
@@ -107,7 +111,7 @@ pub const MOST: usize = 512;
 
 /// What a call gave: the refusal or 0, a number (a count, a limit, a size; 0 if refused or none), and the bytes stored.
 ///
-/// number_read stores its value as eight bytes, high byte first.
+/// number_read stores its value as eight bytes, high byte first. order_fault has its number, the position, with code 6, and none with 0.
 pub struct Answer {
     pub code: u8,
     pub number: u64,

@@ -18,7 +18,7 @@ const SHOWN: u64 = 5;
 #[derive(Default, Clone, Copy)]
 struct Tally {
     cases: u64,
-    /// of these, the ones that quinn answered, and those on which request 02 parts from it; the others are held to document 01
+    /// of these, the ones that quinn answered, and those on which request 02 parts from it; the others are held to the documents
     quinn: u64,
     request_02: u64,
     accepted: u64,
@@ -35,9 +35,9 @@ impl Tally {
     }
 
     fn line(&self, name: &str) {
-        let document = self.cases - self.quinn - self.request_02;
+        let documents = self.cases - self.quinn - self.request_02;
         println!(
-            "{name:<16}{:>12}{:>14}{document:>16}{:>15}{:>12}{:>13}",
+            "{name:<16}{:>12}{:>14}{documents:>14}{:>15}{:>12}{:>13}",
             self.cases, self.quinn, self.request_02, self.accepted, self.differences
         );
     }
@@ -58,11 +58,12 @@ fn show(c: &Case, want: &Answer, got: &library::Called) {
 }
 
 /// A difference planted on the library's side: in `read`, as if 20, the largest ack_delay_exponent, were 19; of a rearranged extension, as if the
-/// parameter at its front had to stay there; in each other operation, one bit of one answer, that of the 100th call that was accepted (the first
+/// parameter at its front had to stay there; in `order_fault`, as if the earlier copy of a repeated entry were at fault; in each other operation, one bit of one answer, that of the 100th call that was accepted (the first
 /// of `default`, which has few). In `write` it is a bit of the byte before the output, in `tidy` of the byte behind it.
 fn plant(c: &Case, nth: u64, got: &mut library::Called) {
     let now = nth == if c.op == Op::Default { 1 } else { 100 };
     match c.op {
+        Op::OrderFault => got.number = c.x.iter().position(|p| c.x.get(got.number as usize) == Some(p)).map_or(got.number, |i| i as u64),
         _ if got.code != 0 => {}
         Op::Read if got.output()[64..72] == 20u64.to_be_bytes() => *got = library::refused(2),
         Op::Read => {}
@@ -78,7 +79,7 @@ fn plant(c: &Case, nth: u64, got: &mut library::Called) {
 }
 
 /// The parts of the documented run.
-const PARTS: [(&str, fn(&mut Suite)); 24] = [
+const PARTS: [(&str, fn(&mut Suite)); 25] = [
     ("default", |s| s.default()),
     ("shown", |s| s.shown()),
     ("real", |s| s.real(1, 500_000)),
@@ -103,6 +104,7 @@ const PARTS: [(&str, fn(&mut Suite)); 24] = [
     ("numbers_short", |s| s.numbers_short(3)),
     ("short", |s| s.short(3)),
     ("rearrangements", |s| s.rearrangements(5_000, 100)),
+    ("order_faults", |s| s.order_faults(1_000_000)),
 ];
 
 /// How many other orders a part had read; how many with unknown parameters; with unknown ones of which an identifier or a length is in a longer
@@ -148,7 +150,7 @@ pub fn compare(planted: bool) {
         match by {
             By::Quinn => t.quinn += 1,
             By::Request02(_) => t.request_02 += 1,
-            By::Document01 => {}
+            By::Documents => {}
         }
         t.accepted += (want.code == 0) as u64;
         if planted {
@@ -175,8 +177,8 @@ pub fn compare(planted: bool) {
     }
 
     println!(
-        "{:<16}{:>12}{:>14}{:>16}{:>15}{:>12}{:>13}",
-        "operation", "cases", "put to quinn", "by document 01", "by request 02", "accepted", "differences"
+        "{:<16}{:>12}{:>14}{:>14}{:>15}{:>12}{:>13}",
+        "operation", "cases", "put to quinn", "by documents", "by request 02", "accepted", "differences"
     );
     let mut sum = Tally::default();
     for ((_, name), t) in Op::ALL.iter().zip(&tallies) {

@@ -11,8 +11,9 @@ use crate::{
 #[derive(Clone, Copy)]
 pub enum By {
     Quinn,
-    /// The order test has no counterpart in quinn, nor have calls on which the Rust panics or that its types rule out.
-    Document01,
+    /// The order test and the first fault of an order have no counterpart in quinn, nor have calls on which the Rust panics or that its types
+    /// rule out. All but the first fault is document 01's.
+    Documents,
     /// Request 02, where quinn is not asked: the extension has a second grease_quic_bit or min_ack_delay, which starts here.
     Request02(usize),
 }
@@ -26,8 +27,8 @@ impl By {
 
 pub fn by(c: &Case) -> By {
     match c.op {
-        _ if c.declined != 0 => By::Document01,
-        Op::CheckOrder => By::Document01,
+        _ if c.declined != 0 => By::Documents,
+        Op::CheckOrder | Op::OrderFault => By::Documents,
         Op::Read | Op::Tidy | Op::TidyTwice => second_copy(c.x).map_or(By::Quinn, By::Request02),
         _ => By::Quinn,
     }
@@ -62,8 +63,18 @@ fn check_order(order: &[u8]) -> u8 {
     if is_permutation(order) { 0 } else { 6 }
 }
 
-fn by_document(c: &Case) -> Answer {
-    Answer::refused(if c.op == Op::CheckOrder { check_order(c.x) } else { c.declined })
+/// Request 04: the position of the first entry that is out of range or repeats an earlier one; the order's length if entries are only missing.
+fn order_fault(order: &[u8]) -> Option<usize> {
+    let is_wrong = |k: &usize| order[*k] > 20 || order[..*k].contains(&order[*k]);
+    (0..order.len()).find(is_wrong).or((order.len() < 21).then_some(order.len()))
+}
+
+fn by_documents(c: &Case) -> Answer {
+    match c.op {
+        Op::CheckOrder => Answer::refused(check_order(c.x)),
+        Op::OrderFault => order_fault(c.x).map_or(Answer::refused(0), |k| Answer { code: 6, ..Answer::number(k as u64) }),
+        _ => Answer::refused(c.declined),
+    }
 }
 
 /// Request 02: a second copy is 1, whatever its value and whatever follows, unless a parameter before it is at fault. So is an identifier that
@@ -76,7 +87,7 @@ fn by_request_02(c: &Case, start: usize) -> Answer {
 pub fn answer_by(by: By, c: &Case) -> Answer {
     let a = match by {
         By::Quinn => rust::answer(c),
-        By::Document01 => by_document(c),
+        By::Documents => by_documents(c),
         By::Request02(start) => by_request_02(c, start),
     };
     if c.room < a.len { Answer::refused(5) } else { a }

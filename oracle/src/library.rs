@@ -12,6 +12,7 @@ unsafe extern "C" {
     fn yuthpram_check(record: *const u8, record_len: usize, side: u8) -> u8;
     fn yuthpram_read(side: u8, src: *const u8, src_len: usize, record: *mut u8, record_len: usize) -> u8;
     fn yuthpram_check_order(order: *const u8, order_len: usize) -> u8;
+    fn yuthpram_order_fault(order: *const u8, order_len: usize, position: *mut usize) -> u8;
     fn yuthpram_write(record: *const u8, record_len: usize, out: *mut u8, out_len: usize, count: *mut usize) -> u8;
     fn yuthpram_length(record: *const u8, record_len: usize, count: *mut usize) -> u8;
     fn yuthpram_tidy(side: u8, src: *const u8, src_len: usize, out: *mut u8, out_len: usize, count: *mut usize) -> u8;
@@ -100,14 +101,16 @@ impl Called {
     }
 }
 
-/// The number of an answer; one that no answer has if a number changed that shouldn't.
+/// The number of an answer; one that no answer has if a number changed that shouldn't. A refused call gives none; of order_fault 0 gives none, and 6
+/// comes with the position.
 fn number(op: Op, code: u8, numbers: [u64; 5]) -> u64 {
     let untouched = |at: usize| numbers[at] == UNTOUCHED;
-    if !(untouched(0) && untouched(2) && untouched(4)) || code != 0 && !(untouched(VALUE) && untouched(COUNT)) {
+    let is_given = (code == 0) != (op == Op::OrderFault);
+    if !(untouched(0) && untouched(2) && untouched(4)) || !is_given && !(untouched(VALUE) && untouched(COUNT)) {
         return u64::MAX;
     }
     match op {
-        _ if code != 0 => 0,
+        _ if !is_given => 0,
         Op::Issue => numbers[VALUE],
         Op::Default | Op::Read | Op::New | Op::Resume | Op::Check | Op::CheckOrder => 0,
         _ => numbers[COUNT],
@@ -168,6 +171,7 @@ pub fn call(c: &Case) -> Called {
             Op::Tidy | Op::TidyTwice => yuthpram_tidy(side, x, n, out, room, count),
             Op::CheckOrder => yuthpram_check_order(x, n),
             Op::Length => yuthpram_length(x, n, count),
+            Op::OrderFault => yuthpram_order_fault(x, n, count),
             Op::Rearranged | Op::TidyRearranged => unreachable!("the other order was called for"),
         }
     };

@@ -181,7 +181,7 @@ fn recorded<'a>(c: &Case<'a>) -> Case<'a> {
 
 pub fn record() {
     // every `step`th case of each part
-    let parts: [(usize, fn(&mut Suite)); 23] = [
+    let parts: [(usize, fn(&mut Suite)); 24] = [
         (1, |s| s.default()),
         (1, |s| s.shown()),
         (1, |s| s.real(61, 40)),
@@ -205,6 +205,7 @@ pub fn record() {
         (2, |s| s.resumption(112)),
         (3, |s| s.declined(34)),
         (1, |s| s.rearrangements(20, 4)),
+        (17, |s| s.order_faults(600)),
     ];
     let (mut entries, mut bytes, mut requested) = (0, 0, 0);
     for (step, part) in parts {

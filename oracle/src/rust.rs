@@ -106,7 +106,7 @@ pub fn answer(c: &Case) -> Answer {
             Ok(p) => stored(|out| p.write(out)),
             Err(e) => refusal(e),
         },
-        Op::CheckOrder => unreachable!("quinn has no such test"),
+        Op::CheckOrder | Op::OrderFault => unreachable!("quinn has no such test"),
         Op::Length => {
             let mut p = image::to_record(c.x);
             p.write_order = p.write_order.filter(|order| due::is_permutation(order));

@@ -501,6 +501,40 @@ impl Suite<'_> {
         }
     }
 
+    /// Orders to be asked for their first fault: every list of up to four of five entries; of a permutation each length, and each with more entries
+    /// behind it; at each two positions the one's entry at the other, and one out of range beside a repeat; random lists of every length to 63.
+    pub fn order_faults(&mut self, n: usize) {
+        const ENTRIES: [u8; 5] = [0, 1, 20, 21, 255];
+        for len in 0..=4 {
+            for i in 0..ENTRIES.len().pow(len) {
+                let order: Vec<u8> = (0..len).map(|k| ENTRIES[i / ENTRIES.len().pow(k) % ENTRIES.len()]).collect();
+                self.case(Op::OrderFault, 0, &order, 0);
+            }
+        }
+        for len in 0..64 {
+            let more = self.d.permutation();
+            let order: Vec<u8> = self.d.permutation().into_iter().chain(more).chain(more).take(len).collect();
+            self.case(Op::OrderFault, 0, &order, 0);
+        }
+        for (at, other) in (0..21).flat_map(|at| (0..21).map(move |other| (at, other))) {
+            let mut order = self.d.permutation();
+            order[at] = order[other];
+            self.case(Op::OrderFault, 0, &order, 0);
+            order[self.d.below(21)] = 21 + self.d.below(235) as u8;
+            self.case(Op::OrderFault, 0, &order, 0);
+        }
+        for i in 0..n {
+            let mut order: Vec<u8> = self.d.permutation().to_vec();
+            match i % 4 {
+                0 => order[self.d.below(21)] = order[self.d.below(21)],
+                1 => (0..2).for_each(|_| order[self.d.below(21)] = self.d.next() as u8),
+                2 => order.resize_with(self.d.below(64), || self.d.below(24) as u8),
+                _ => {}
+            }
+            self.case(Op::OrderFault, 0, &order, 0);
+        }
+    }
+
     pub fn default(&mut self) {
         for room in [RECORD, RECORD - 1, RECORD + 1, 0] {
             self.case(Op::Default, 0, &[], room);

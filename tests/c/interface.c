@@ -295,6 +295,46 @@ static void orders(void)
     CHECK(yuthpram_check_order(order, 21) == 6);
 }
 
+// What is wrong with an order: a position and 6, or 0 and nothing stored.
+static int fault_at(const uint8_t *order, size_t len, size_t position)
+{
+    reset();
+    int found = yuthpram_order_fault(order, len, &count) == 6 && count == position;
+    count = 0x99;
+    return found && untouched();
+}
+
+static void order_faults(void)
+{
+    uint8_t order[64] = { 0 };
+    backwards(order);
+    ACCEPTS(yuthpram_order_fault(order, 21, &count));
+    CHECK(untouched());
+    CHECK(fault_at(NULL, 0, 0));
+    for (size_t len = 0; len < sizeof order; len++)
+        if (len != 21)
+            CHECK(fault_at(order, len, len < 21 ? len : 21));
+    for (size_t at = 0; at < 21; at++) {
+        uint8_t place = order[at];
+        order[at] = 21;
+        CHECK(fault_at(order, 21, at) && fault_at(order, 64, at) && yuthpram_check_order(order, 21) == 6);
+        order[at] = 255;
+        CHECK(fault_at(order, at + 1, at));
+        order[at] = place;
+    }
+    // the later copy is at fault, unless an entry before it is out of range
+    for (size_t first = 0; first < 21; first++)
+        for (size_t second = first + 1; second < 21; second++) {
+            uint8_t place = order[second], other = order[(first + second) / 2];
+            order[second] = order[first];
+            CHECK(fault_at(order, 21, second) && yuthpram_check_order(order, 21) == 6);
+            order[(first + second) / 2] = 21;
+            CHECK(fault_at(order, 21, (first + second) / 2));
+            order[(first + second) / 2] = other;
+            order[second] = place;
+        }
+}
+
 static void writing(void)
 {
     static const uint8_t catalogue[] = { 1, 2, 0x40, 100, 32, 2, 0x44, 0xb0, 15, 1, 9 };
@@ -570,6 +610,7 @@ int main(void)
     second_copies();
     any_order();
     orders();
+    order_faults();
     writing();
     field_lengths();
     number_lengths();

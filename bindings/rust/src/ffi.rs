@@ -13,6 +13,7 @@ extern "C" {
     pub fn yuthpram_check(record: *const u8, record_len: usize, side: u8) -> u8;
     pub fn yuthpram_read(side: u8, src: *const u8, src_len: usize, record: *mut u8, record_len: usize) -> u8;
     pub fn yuthpram_check_order(order: *const u8, order_len: usize) -> u8;
+    pub fn yuthpram_order_fault(order: *const u8, order_len: usize, position: *mut usize) -> u8;
     pub fn yuthpram_write(record: *const u8, record_len: usize, out: *mut u8, out_len: usize, count: *mut usize) -> u8;
     pub fn yuthpram_length(record: *const u8, record_len: usize, count: *mut usize) -> u8;
     pub fn yuthpram_tidy(side: u8, src: *const u8, src_len: usize, out: *mut u8, out_len: usize, count: *mut usize) -> u8;

@@ -345,6 +345,25 @@ pub fn check_order(order: &[u8]) -> Result<(), Error> {
     Error::of(unsafe { ffi::yuthpram_check_order(order.as_ptr(), order.len()) })
 }
 
+/// What is wrong with an order of any length: the position, from 0, of the first entry that is over 20 or repeats an earlier one; the order's
+/// length if entries are only missing. `None` exactly for a permutation of 0 to 20, which `check_order` accepts.
+///
+/// ```
+/// use yuthpram::order_fault;
+/// let mut order: Vec<u8> = (0..21).rev().collect();
+/// assert_eq!(order_fault(&order), None);
+/// assert_eq!(order_fault(&order[..5]), Some(5));
+/// order[7] = order[3];
+/// assert_eq!(order_fault(&order), Some(7));
+/// order[4] = 21;
+/// assert_eq!(order_fault(&order), Some(4));
+/// ```
+pub fn order_fault(order: &[u8]) -> Option<usize> {
+    let mut position = 0;
+    let number = unsafe { ffi::yuthpram_order_fault(order.as_ptr(), order.len(), &mut position) };
+    (number != 0).then_some(position)
+}
+
 /// Reads an extension for a side, the one that **reads** it, and writes its one shortest form to the front of `out`.
 ///
 /// ```

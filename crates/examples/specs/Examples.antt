@@ -1,10 +1,11 @@
--- The worked examples (a) to (n), some lengths, second copies and other orders: for each a side, an operation, its input and the outcome. The
--- definitions are those that the contracts of reading, tidying, writing and the length cite.
+-- The worked examples (a) to (n), some lengths, second copies, other orders and faults of an order: for each a side, an operation, its input and
+-- the outcome. The definitions are those that the contracts of reading, tidying, writing, the length and the first fault of an order cite.
 use Prim.Native.Nat.{ℕ}
 use mathlib.Core.Path.{_≡_}
 use mathlib.Core.List.{List, [], _∷_, _++_}
 use mathlib.Core.Bool.{Bool, true, false}
-use lib.ListN.{length, replicate}
+use mathlib.Core.Option.{Option, none, some}
+use lib.ListN.{length, replicate, take}
 use Rattle.refusal.specs.Outcome.{Outcome, accepted, refused}
 use Rattle.varint.specs.Number.{bound}
 use Rattle.connection_id.specs.ConnectionId.{cidOf}
@@ -18,6 +19,7 @@ use Rattle.record.specs.Values.{noReserved, noOrder, tokenOf, toV4, toV6}
 use Rattle.record.specs.Record.{defaultRecord}
 use Rattle.reader.specs.Reading.{read}
 use Rattle.writer.specs.Writing.{write, lengthOf}
+use Rattle.order.specs.Order.{orderFault}
 use Rattle.tidy.specs.Tidying.{tidy}
 
 pub data Example : Type 0 where
@@ -29,6 +31,8 @@ pub data Example : Type 0 where
   writing : TransportParameters → List ℕ → Example
   -- the length of a record
   measuring : TransportParameters → Outcome ℕ → Example
+  -- an order, and the position of its first fault
+  ordering : List ℕ → Option ℕ → Example
 
 -- what an example states. The buffers of tidying and writing are exactly long enough
 abbrev pub Holds : Example → Type 0
@@ -36,6 +40,7 @@ Holds (reading s e o) = read s e ≡ o
 Holds (tidying s e t) = tidy s e (replicate (length t) 0) ≡ (accepted (length t), t)
 Holds (writing r t) = write r (replicate (length t) 0) ≡ (accepted (length t), t)
 Holds (measuring r o) = lengthOf r ≡ o
+Holds (ordering os o) = orderFault os ≡ o
 
 abbrev pub Each : List Example → Type 0
 Each [] = Unit {0}
@@ -149,4 +154,11 @@ examples =
     ∷  -- other orders (request 03): (b), an unknown parameter in a longer form and grease_quic_bit
     reading Client (idle ++ (unknown ++ grease)) (accepted (with (numbers 30000 65527 25) false true Absent noOrder))
     ∷ reading Client (grease ++ (idle ++ unknown)) (accepted (with (numbers 30000 65527 25) false true Absent noOrder))
+    ∷  -- faults of an order (request 04): a repeat; an entry out of range before one; nothing there; an entry missing; none; one too many
+    ordering (3 ∷ 1 ∷ 4 ∷ 1 ∷ 5 ∷ []) (some 3)
+    ∷ ordering (7 ∷ 21 ∷ 7 ∷ []) (some 1)
+    ∷ ordering [] (some 0)
+    ∷ ordering (take 20 (reversed .places)) (some 20)
+    ∷ ordering (reversed .places) none
+    ∷ ordering (reversed .places ++ (0 ∷ [])) (some 21)
     ∷ []

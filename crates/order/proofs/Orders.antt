@@ -1,6 +1,7 @@
 -- Laws of orders. Assumes nothing.
 --     first          what the first of distinct places is
 --     weighed        a sum over distinct places is a sum over all places
+--     at-most        no more than 21 places are distinct
 --     full           every place is in an order of 21 distinct ones
 --     weigh-all      so that a sum over the order is the sum over all places
 --     in-catalogue   catalogue order is a permutation
@@ -67,6 +68,14 @@ ones : (n : ℕ) (f : ℕ → ℕ) → ((q : ℕ) → f q ≤ 1) → sum n f ≤
 unfolding sum
 ones zero f h = omega arith
 ones (suc n) f h = omega (arith, ones n f h, h n)
+
+-- no more than 21 places are distinct
+pub at-most : (os : List ℕ) → distinct os ≡ true → length os ≤ places
+at-most os d = omega (arith, weighed (λ q. 1) os d, length-weigh os, ones places (in-order (λ q. 1) os) (λ q. one (member q os)))
+  where
+    one : (a : Bool) → pick a 1 0 ≤ 1
+    one true = omega arith
+    one false = omega arith
 
 -- every place is in an order of 21 distinct ones
 pub full : (os : List ℕ) → distinct os ≡ true → length os ≡ places → (q : ℕ) → q < places → member q os ≡ true

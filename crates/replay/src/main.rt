@@ -9,7 +9,7 @@ use text::word;
 const MOST: usize = 512;
 
 // How many operations there are.
-const OPERATIONS: usize = 16;
+const OPERATIONS: usize = 17;
 
 // What stands in an output and in a number before a call.
 const FILL: u8 = 0xa7;
@@ -158,6 +158,18 @@ fn length(x: &[u8]) -> Called {
     storing(code, count as u64)
 }
 
+// 6 comes with a position; 0 stores none.
+fn order_fault(x: &[u8]) -> Called {
+    let mut position = UNTOUCHED as usize;
+    let code = yuthpram::yuthpram_order_fault(x, &mut position);
+    let is_kept = if code == 0 { 1 } else { 0 };
+    Called {
+        code,
+        number: stored(is_kept, position as u64),
+        value: UNTOUCHED,
+    }
+}
+
 fn tidy(side: u8, x: &[u8], out: &mut [u8]) -> Called {
     let mut count = UNTOUCHED as usize;
     let code = yuthpram::yuthpram_tidy(side, x, out, &mut count);
@@ -228,7 +240,8 @@ fn call(op: u8, number: u64, x: &[u8], y: &[u8], z: &[u8], w: &[u8], out: &mut [
         12 => tidy(side, x, out),
         13 => tidy_twice(side, x, out),
         14 => plain(yuthpram::yuthpram_check_order(x)),
-        _ => length(x),
+        15 => length(x),
+        _ => order_fault(x),
     }
 }
 
@@ -363,7 +376,8 @@ check
 tidy
 tidy twice
 check_order
-length";
+length
+order_fault";
     let mut i: usize = 0;
     while i < OPERATIONS {
         show(word(names, i, b'\n'), i, cases, differences);

@@ -3,6 +3,7 @@
 use Prim.Native.Nat.{ℕ}
 use mathlib.Core.List.{List}
 use mathlib.Core.Bool.{not}
+use mathlib.Core.Option.{Option, none, some}
 use lib.ListN.{length, getD, replicate}
 use lib.Dec.{eqb}
 use Rattle.refusal.specs.Outcome.{Outcome, accepted, refused, pick, andThen, store}
@@ -14,7 +15,7 @@ use Rattle.record.specs.declared.OptionalNumber.the-variants.{Absent, Present}
 use Rattle.rules.specs.declared.Side.{Side}
 use Rattle.rules.specs.declared.Side.the-variants.{Client, Server}
 use Rattle.record.specs.Record.{defaultRecord}
-use Rattle.order.specs.Order.{permutation}
+use Rattle.order.specs.Order.{permutation, orderFault}
 use Rattle.tidy.specs.Tidying.{tidy}
 use Rattle.building.specs.declared.Settings.{Settings}
 use Rattle.building.specs.Building.{settingsFit, build}
@@ -88,6 +89,14 @@ recordRead side src image = coded (imageRead (sideOf side) src image)
 
 unfoldable pub orderCheck : List ℕ → ℕ
 orderCheck order = pick (permutation order) 0 6
+
+-- 6 and the position of the first fault; 0, and the position as it was, if nothing is wrong
+abbrev pub positionInto : Option ℕ → ℕ → ℕ × ℕ
+positionInto (some k) n = (6, k)
+positionInto none n = (0, n)
+
+unfoldable pub orderPosition : List ℕ → ℕ → ℕ × ℕ
+orderPosition order position = positionInto (orderFault order) position
 
 unfoldable pub recordWrite : List ℕ → List ℕ → ℕ → ℕ × List ℕ × ℕ
 recordWrite image out n = counted (imageWrite image out) n

@@ -1,18 +1,23 @@
 // What the commands answer: each is a call of the library, and its result in words.
 use crate::Status;
-use crate::fault::explain;
-use crate::fault::note_culprit;
-use crate::fault::refused;
 use crate::input::first;
 use catalogue::MAX_EXTENSION;
+use catalogue::PLACES;
+use explain::note_culprit;
+use explain::note_order_fault;
+use explain::note_reading;
+use explain::note_refusal;
 use image::RECORD_SIZE;
 use libc::STDERR_FILENO;
 use libc::STDOUT_FILENO;
+use order::OrderFault;
 use record::TransportParameters;
 use refusal::Answer;
 use refusal::Counted;
 use refusal::Refusal;
 use rules::Side;
+use show::rows::ORDER;
+use show::rows::value_at;
 use text::out::note;
 use text::out::put_count;
 use text::out::say;
@@ -20,6 +25,17 @@ use text::out::say_hex;
 use text::out::say_number;
 use varint::Decoded;
 use varint::VarInt;
+
+fn refused(r: Refusal) -> Status {
+    note_refusal(r);
+    Status::Refused
+}
+
+// A refusal of reading, and what is at fault.
+fn unread(side: Side, r: Refusal, src: &[u8]) -> Status {
+    note_reading(side, r, src);
+    Status::Refused
+}
 
 // Shows the record that reading gave, and before it its length.
 fn show_record(r: TransportParameters) {
@@ -42,7 +58,7 @@ pub fn read(side: Side, src: &[u8], is_shown: bool) -> Status {
     let reading = reader::read(side, src);
     let answer = reading.answer;
     if let Answer::Refused(r) = answer {
-        return explain(side, r, src);
+        return unread(side, r, src);
     }
     if is_shown {
         let r = reading.parameters;
@@ -65,6 +81,27 @@ fn say_stored(stored: Counted, out: &[u8]) -> Status {
     }
 }
 
+// The order that the image of a record holds.
+fn order_in<'a>(record: &'a [u8]) -> &'a [u8] {
+    let at = value_at(ORDER);
+    let end = at + PLACES;
+    if end <= record.len() {
+        return &record[at..end];
+    }
+    record
+}
+
+// Tells what is wrong with an order.
+pub fn order_fault(order: &[u8]) -> Status {
+    let OrderFault::At(_) = order::order_fault(order) else {
+        say(b"a permutation of 0 to 20\n");
+        return Status::Answered;
+    };
+    note_refusal(Refusal::InvalidOrder);
+    note_order_fault(order);
+    Status::Refused
+}
+
 // Writes a record in text form.
 pub fn write(text: &[u8]) -> Status {
     let mut record = [0u8; RECORD_SIZE];
@@ -73,10 +110,14 @@ pub fn write(text: &[u8]) -> Status {
     }
     let mut out = [0u8; MAX_EXTENSION];
     let stored = by_image::write(&record, &mut out);
-    if let Counted::Count(_) = stored {
+    let Counted::Refused(r) = stored else {
         note_length(&record);
+        return say_stored(stored, &out);
+    };
+    if let Refusal::InvalidOrder = r {
+        return order_fault(order_in(&record));
     }
-    say_stored(stored, &out)
+    refused(r)
 }
 
 // Tells the length of a record in text form.
@@ -133,7 +174,7 @@ pub fn tidy(side: Side, src: &[u8]) -> Status {
     let mut out = [0u8; MAX_EXTENSION];
     let stored = tidy::tidy(side, src, &mut out);
     match stored {
-        Counted::Refused(r) => explain(side, r, src),
+        Counted::Refused(r) => unread(side, r, src),
         Counted::Count(n) => {
             say_stored(stored, &out);
             if n <= src.len() {

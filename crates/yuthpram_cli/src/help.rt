@@ -13,6 +13,7 @@ fn usage(fd: i32) {
   yuthpram check SIDE --record [FILE]  tell whether a record in text form is legal for SIDE to read
   yuthpram write [FILE]                write the extension of a record in text form
   yuthpram length [FILE]               tell how long it will be, in every order
+  yuthpram order_fault [PLACE ..]      tell whether an order is a permutation of 0 to 20, and if not, its first fault
   yuthpram number HEX                  decode a number: its value and how many bytes it takes
   yuthpram number --write DECIMAL      encode a number in its shortest form
 ",
@@ -34,8 +35,9 @@ pub fn say_help() -> Status {
     usage(libc::STDOUT_FILENO);
     say(
         b"
-HEX may have spaces and colons in it. Without HEX or FILE, standard input is read; --raw in the place of HEX takes the bytes of standard
-input as they are. An extension, and a record in text form, may have 65536 bytes.
+HEX may have spaces and colons in it. Without HEX, FILE or PLACE, standard input is read; --raw in the place of HEX takes the bytes of standard
+input as they are. An extension, and a record in text form, may have 65536 bytes. The entries of an order are decimal, at most 255 of them, and the position of
+a fault counts from 0.
 
 The text form of a record is what read shows: lines of a name and a value. Numbers are decimal, IDs and tokens hexadecimal, and what stands
 behind the value of a number is ignored. A flag has no value, or set. What has no line has its default, or is absent. Lines that read does

@@ -9,6 +9,8 @@ use text::out::note;
 use text::out::note_number;
 use text::parse_hex;
 use text::position;
+use text::put_number;
+use text::word;
 
 // The input's bytes, of which there are so many; or there is a complaint.
 pub enum Input {
@@ -160,6 +162,34 @@ fn file_at(i: usize, out: &mut [u8]) -> Input {
     let got = read_all(fd, out);
     libc::close(fd);
     got
+}
+
+// The decimal numbers below 256 that a text lists, a byte for each; fewer than there is room for.
+fn entries_in(text: &[u8], out: &mut [u8]) -> Input {
+    let room = out.len();
+    let mut k: usize = 0;
+    while k < room {
+        let digits = word(text, k, b' ');
+        if digits.len() == 0 {
+            return Input::Bytes(k);
+        }
+        if !put_number(digits, 255, out, k, 1) {
+            note(b"yuthpram: no number of 0 to 255 at position ");
+            note_number(k as u64);
+            return bad(b" (counted from 0)\n");
+        }
+        k += 1;
+    }
+    bad(b"yuthpram: the order is over the limit of 255 entries\n")
+}
+
+// The entries of an order that argument `start` and those behind it are, or standard input lists.
+pub fn entries_at(start: usize, out: &mut [u8]) -> Input {
+    let mut text = io::large_buffer();
+    match text_at(start, &mut text) {
+        Input::Bad => Input::Bad,
+        Input::Bytes(n) => entries_in(first(n, &text), out),
+    }
 }
 
 // What a command works on, by its words from `start` on: a record in text form, raw bytes from standard input, or hexadecimal text.

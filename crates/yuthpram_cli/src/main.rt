@@ -1,6 +1,5 @@
 // The command-line tool: a thin program over the library. It reads text, prints answers and decides nothing about extensions.
 mod answers;
-mod fault;
 mod help;
 mod input;
 
@@ -31,7 +30,9 @@ const WRITE: usize = 3;
 
 const LENGTH: usize = 4;
 
-const NUMBER: usize = 5;
+const ORDER_FAULT: usize = 5;
+
+const NUMBER: usize = 6;
 
 fn encode_command() -> Status {
     if is_followed(3) {
@@ -43,6 +44,14 @@ fn encode_command() -> Status {
         DecimalText::Number(x) => answers::encode(x),
         DecimalText::Strange => help::misused(b"yuthpram: not a decimal number\n"),
     }
+}
+
+fn order_fault_command() -> Status {
+    let mut order = [0u8; 256];
+    let Input::Bytes(n) = input::entries_at(2, &mut order) else {
+        return Status::Misused;
+    };
+    answers::order_fault(first(n, &order))
 }
 
 // Where the words of a command's input start: behind its side, if it names one, and behind --record.
@@ -85,16 +94,23 @@ fn run() -> Status {
     if os::arg_count() < 2 {
         return help::say_help();
     }
-    let command = choice(1, b"read tidy check write length number --help -h", 8);
+    let command = choice(
+        1,
+        b"read tidy check write length order_fault number --help -h",
+        9,
+    );
     if command == NUMBER {
         if choice(2, b"--write", 1) == 0 {
             return encode_command();
         }
     }
+    if command == ORDER_FAULT {
+        return order_fault_command();
+    }
     if command <= NUMBER {
         return operate(command);
     }
-    if command == 8 {
+    if command == 9 {
         return help::misused(b"yuthpram: no such command\n");
     }
     help::say_help()

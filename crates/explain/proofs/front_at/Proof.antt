@@ -3,8 +3,8 @@ use mathlib.Core.Path.{ap, sym, _∙_}
 use Rattle.front.specs.Answer.{parameterOutcome}
 use Rattle.front.proofs.Position.{within}
 use borrow.Author.Needs.{needs}
-use Rattle.yuthpram_cli.proofs.fault.front_at.Statement.{statement}
-use Rattle.yuthpram_cli.proofs.fault.front_at.Tie as tie
+use Rattle.explain.proofs.front_at.Statement.{statement}
+use Rattle.explain.proofs.front_at.Tie as tie
 
 returns-2 : tie.Need-returns-2
 returns-2 c =

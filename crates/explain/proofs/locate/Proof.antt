@@ -2,8 +2,8 @@
 use Prim.Native.Nat.{_≤_, _-_}
 use lib.ListN.{length}
 use borrow.Author.Needs.{needs}
-use Rattle.yuthpram_cli.proofs.fault.locate.Statement.{statement}
-use Rattle.yuthpram_cli.proofs.fault.locate.Tie as tie
+use Rattle.explain.proofs.locate.Statement.{statement}
+use Rattle.explain.proofs.locate.Tie as tie
 
 abbrev Inv-loop : tie.InvT-loop
 Inv-loop side src met₀ is-found₀ rule-at₀ rule-id₀ at₀ met is-found rule-at rule-id at = at ≤ length src

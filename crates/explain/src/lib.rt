@@ -1,7 +1,6 @@
-// Says what a refusal means and, for an extension, which parameter is at fault, at which byte it starts, and why.
+// Says what a refusal means and what is at fault: of an extension which parameter, at which byte it starts, and why; of an order which entry.
 ghost use Prim.Native.Nat.{_≤_};
 ghost use lib.ListN.{length};
-use crate::Status;
 use catalogue::ACK_DELAY_EXPONENT;
 use catalogue::ACTIVE_CONNECTION_ID_LIMIT;
 use catalogue::DISABLE_ACTIVE_MIGRATION;
@@ -24,6 +23,7 @@ use index::Scanned;
 use libc::STDERR_FILENO;
 use marks::is_marked;
 use marks::with_mark;
+use order::OrderFault;
 use refusal::Refusal;
 use rules::Side;
 use text::out::note;
@@ -31,6 +31,8 @@ use text::out::note_line;
 use text::out::note_number;
 use text::word;
 use value::Value;
+use words::size;
+use words::wide;
 
 // The parameter at fault: where it starts, its identifier, and what is wrong.
 struct Culprit {
@@ -39,7 +41,7 @@ struct Culprit {
     fault: Fault,
 }
 
-pub fn refused(r: Refusal) -> Status {
+pub fn note_refusal(r: Refusal) {
     let refusals = b"-
 refused 1: malformed
 refused 2: a value that is not allowed
@@ -51,7 +53,6 @@ refused 7: the record is not well formed
 refused 8: a remembered limit is reduced
 refused 9: a drawn value is out of range";
     note_line(refusals, r.number() as usize);
-    Status::Refused
 }
 
 // Whether an extension is refused.
@@ -191,19 +192,18 @@ a client may not send it";
 }
 
 // A refusal of reading, and its cause.
-pub fn explain(side: Side, r: Refusal, src: &[u8]) -> Status {
+pub fn note_reading(side: Side, r: Refusal, src: &[u8]) {
     let c = locate(side, src);
     let fault = c.fault;
-    refused(r);
+    note_refusal(r);
     note(b"at byte ");
     note_number(c.at as u64);
     if let Fault::Cut = fault {
         note(b": the input ends within this parameter\n");
-        return Status::Refused;
+        return;
     }
     note(b", ");
     note_cause(side, c);
-    Status::Refused
 }
 
 // The cause alone, of a record's extension. If the extension is accepted, no value rule is broken: then a family that is given is all zero.
@@ -212,5 +212,25 @@ pub fn note_culprit(side: Side, src: &[u8]) {
         note_cause(side, locate(side, src));
     } else {
         note(b"preferred_address: a family of zeros and port 0\n");
+    }
+}
+
+// The first fault of an order: its position and, unless entries are only missing, the entry there.
+pub fn note_order_fault(order: &[u8]) {
+    let OrderFault::At(i) = order::order_fault(order) else {
+        return;
+    };
+    note(b"at position ");
+    note_number(i as u64);
+    if order.len() <= i {
+        note(b": entries are missing\n");
+        return;
+    }
+    note(b", entry ");
+    note_number(wide(order[i]));
+    if PLACES <= size(order[i]) {
+        note(b": out of range\n");
+    } else {
+        note(b": it repeats an earlier one\n");
     }
 }
