@@ -255,19 +255,19 @@ module _ (os : List ℕ) (k : ℕ) (e : orderFault os ≡ some k) where
 
 -- 22 entries are enough
 module _ (os : List ℕ) (h : places < length os) where
-  soon : (k : ℕ) × (k ≤ places) × (firstBelow 22 (faulty os) ≡ some k)
-  soon = go (firstBelow 22 (faulty os)) refl
+  soon : (k : ℕ) × (k ≤ places) × (firstBelow (suc places) (faulty os) ≡ some k)
+  soon = go (firstBelow (suc places) (faulty os)) refl
     where
-      go : (o : Option ℕ) → firstBelow 22 (faulty os) ≡ o → (k : ℕ) × (k ≤ places) × (o ≡ some k)
-      go (some k) e = (k, omega (arith, located-at (faulty os) 22 (some k) e .below), refl)
-      go none e = absurd (omega (arith, turns os 22 (omega arith) e))
+      go : (o : Option ℕ) → firstBelow (suc places) (faulty os) ≡ o → (k : ℕ) × (k ≤ places) × (o ≡ some k)
+      go (some k) e = (k, omega (arith, located-at (faulty os) (suc places) (some k) e .below), refl)
+      go none e = absurd (omega (arith, turns os (suc places) (omega arith) e))
 
-  same-faults : (more : List ℕ) → firstBelow 22 (faulty (os ++ more)) ≡ firstBelow 22 (faulty os)
-  same-faults more = same-below 22 (faulty (os ++ more)) (faulty os) (λ k l. rw (List·getD-append os more 0 k (omega arith), take-append-le k os more (omega arith)))
+  same-faults : (more : List ℕ) → firstBelow (suc places) (faulty (os ++ more)) ≡ firstBelow (suc places) (faulty os)
+  same-faults more = same-below (suc places) (faulty (os ++ more)) (faulty os) (λ k l. rw (List·getD-append os more 0 k (omega arith), take-append-le k os more (omega arith)))
 
   nothing-behind : (more : List ℕ) → orderFault (os ++ more) ≡ orderFault os
   nothing-behind more =
-      by-entry (os ++ more) 22 (soon .0) (omega (arith, length-append os more)) (same-faults more ∙ soon .2) ∙ sym (by-entry os 22 (soon .0) (omega arith) (soon .2))
+      by-entry (os ++ more) (suc places) (soon .0) (omega (arith, length-append os more)) (same-faults more ∙ soon .2) ∙ sym (by-entry os (suc places) (soon .0) (omega arith) (soon .2))
 
 pub first-fault : FirstFault
 first-fault =
@@ -277,7 +277,7 @@ first-fault =
       inRange = λ os k j e h. in-range os k e j h;
       unequal = λ os k j i e h l f. unequal os k e j i h l f;
       missing = only-missing;
-      within = λ os h. (soon os h .0, soon os h .1, by-entry os 22 (soon os h .0) (omega arith) (soon os h .2));
+      within = λ os h. (soon os h .0, soon os h .1, by-entry os (suc places) (soon os h .0) (omega arith) (soon os h .2));
       behind = λ os more h. nothing-behind os h more;
     }
 

@@ -1,6 +1,6 @@
 -- `order::order_fault` meets its contract. The invariant: no entry before `i` is at fault, and these are marked. The measure is what is left of 22
 -- entries: the pass has no more turns, however long the order. Assumes nothing.
-use Prim.Native.Nat.{_≤_, _<_, _-_}
+use Prim.Native.Nat.{suc, _≤_, _<_, _-_}
 use native.Mathlib.Omega.{arith}
 use mathlib.Core.Path.{_≡_, refl, sym, _∙_}
 use mathlib.Core.Bool.{true, false}
@@ -18,7 +18,7 @@ abbrev Inv-loop : tie.InvT-loop
 Inv-loop order met₀ i₀ met i = (i ≤ length order) × (firstBelow i (faulty order) ≡ none) × Met met (take i order)
 
 abbrev μ-loop : tie.MeasureT-loop
-μ-loop order met₀ i₀ met i = 22 - i
+μ-loop order met₀ i₀ met i = suc places - i
 
 loop-holds : tie.Need-loop-holds Inv-loop μ-loop
 loop-holds c = (omega arith, refl, unmarked)
@@ -33,7 +33,7 @@ returns : tie.Need-returns Inv-loop μ-loop
 returns c =
     let l = c .before .before .before .before .loop in
     let os = c .before .before .before .before .before .before .args .order .now in
-    let p : places ≤ getD os (l .i) 0 = rw (c .before .size .ensures) at (c .if1 .taken) in
+    let p : places ≤ getD os (l .i) 0 = omega (arith, rw (c .before .size .ensures) at (c .if1 .taken)) in
     at-fault os (l .i) (l .inv .1) (omega arith) (rw (le-leb places (getD os (l .i) 0) p))
 
 is-marked-requires : tie.Need-is-marked-requires Inv-loop μ-loop
@@ -70,7 +70,7 @@ loop-again c =
 returns-3 : tie.Need-returns-3 Inv-loop μ-loop
 returns-3 c =
     let l = c .before .before .loop in
-    rw (lt-ltb (l .i) places (c .if3 .taken)) at (at-end (c .before .before .before .before .args .order .now) (l .i) (l .inv .1) (omega arith))
+    rw (lt-ltb (l .i) places (omega arith)) at (at-end (c .before .before .before .before .args .order .now) (l .i) (l .inv .1) (omega arith))
 
 returns-4 : tie.Need-returns-4 Inv-loop μ-loop
 returns-4 c =
