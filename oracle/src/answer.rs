@@ -1,7 +1,7 @@
 //! A case is one call, all in bytes and numbers; an answer is what came back. Both programs take the same cases.
 
-/// The operations. Those from `Check` on have no counterpart in the Rust: all but `CheckOrder` and `OrderFault` are
-/// held to what its operations give.
+/// The operations. Those from `Check` on have no counterpart in the Rust: all but `CheckOrder` and `OrderFault` are held to what its operations
+/// give.
 #[derive(Clone, Copy, PartialEq, Eq, Debug)]
 #[repr(u8)]
 pub enum Op {

@@ -58,8 +58,9 @@ fn show(c: &Case, want: &Answer, got: &library::Called) {
 }
 
 /// A difference planted on the library's side: in `read`, as if 20, the largest ack_delay_exponent, were 19; of a rearranged extension, as if the
-/// parameter at its front had to stay there; in `order_fault`, as if the earlier copy of a repeated entry were at fault; in each other operation, one bit of one answer, that of the 100th call that was accepted (the first
-/// of `default`, which has few). In `write` it is a bit of the byte before the output, in `tidy` of the byte behind it.
+/// parameter at its front had to stay there; in `order_fault`, as if the earlier copy of a repeated entry were at fault; in each other operation,
+/// one bit of one answer, that of the 100th call that was accepted (the first of `default`, which has few). In `write` it is a bit of the byte
+/// before the output, in `tidy` of the byte behind it.
 fn plant(c: &Case, nth: u64, got: &mut library::Called) {
     let now = nth == if c.op == Op::Default { 1 } else { 100 };
     match c.op {

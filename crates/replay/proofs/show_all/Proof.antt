@@ -1,4 +1,4 @@
--- `replay::show_all` meets its contract. The measure is the number of lines that are left. Assumes nothing.
+-- `replay::show_all` meets its contract. The measure is the number of lines that are left of 64, which are more than there are. Assumes nothing.
 use Prim.Native.Nat.{_-_}
 use native.Mathlib.Omega.{arith}
 use borrow.Author.Needs.{needs}
@@ -9,7 +9,7 @@ abbrev Inv-loop : tie.InvT-loop
 Inv-loop cases differences names i₀ i = Unit {0}
 
 abbrev μ-loop : tie.MeasureT-loop
-μ-loop cases differences names i₀ i = 16 - i
+μ-loop cases differences names i₀ i = 64 - i
 
 loop-holds : tie.Need-loop-holds Inv-loop μ-loop
 loop-holds c = tt
