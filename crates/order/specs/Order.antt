@@ -23,17 +23,19 @@ permutation os = all (eqb (length os) places ∷ distinct os ∷ [])
 unfoldable pub catalogueOrder : List ℕ
 catalogueOrder = 0 ∷ 1 ∷ 2 ∷ 3 ∷ 4 ∷ 5 ∷ 6 ∷ 7 ∷ 8 ∷ 9 ∷ 10 ∷ 11 ∷ 12 ∷ 13 ∷ 14 ∷ 15 ∷ 16 ∷ 17 ∷ 18 ∷ 19 ∷ 20 ∷ []
 
--- entry k, counted from 0, is out of range; it equals an earlier one
+-- entry k, counted from 0, is no place
 abbrev pub outside : List ℕ → ℕ → Bool
 outside os k = leb places (getD os k 0)
 
+-- it equals an earlier one
 abbrev pub repeats : List ℕ → ℕ → Bool
 repeats os k = member (getD os k 0) (take k os)
 
+-- it is at fault
 abbrev pub faulty : List ℕ → ℕ → Bool
 faulty os k = outside os k || repeats os k
 
--- the first position below n at which a test holds
+-- the first position below n at which a test holds. `orElse` is the first of two, or the second where that is none
 abbrev pub firstBelow : ℕ → (ℕ → Bool) → Option ℕ
 firstBelow zero t = none
 firstBelow (suc n) t = orElse (firstBelow n t) (pick (t n) (some n) none)

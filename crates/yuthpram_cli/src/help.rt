@@ -36,8 +36,8 @@ pub fn say_help() -> Status {
     say(
         b"
 HEX may have spaces and colons in it. Without HEX, FILE or PLACE, standard input is read; --raw in the place of HEX takes the bytes of standard
-input as they are. An extension, and a record in text form, may have 65536 bytes. The entries of an order are decimal, at most 255 of them, and the position of
-a fault counts from 0.
+input as they are. An extension, and a record in text form, may have 65536 bytes. The entries of an order are decimal, at most 255 of
+them, and positions count from 0.
 
 The text form of a record is what read shows: lines of a name and a value. Numbers are decimal, IDs and tokens hexadecimal, and what stands
 behind the value of a number is ignored. A flag has no value, or set. What has no line has its default, or is absent. Lines that read does
