@@ -161,7 +161,7 @@ uint8_t yuthpram_new(const uint64_t *settings, size_t settings_len, const uint8_
                      const uint8_t *payload, size_t payload_len, const uint8_t *order, size_t order_len, uint8_t *record,
                      size_t record_len);
 
-/* Whether a record may be resumed to from a cached one. Refuses 7, then 8. */
+/* Whether a record may be resumed to from a cached one. An absent max_datagram_frame_size counts as 0, in either. Refuses 7, then 8. */
 uint8_t yuthpram_validate_resumption_from(const uint8_t *record, size_t record_len, const uint8_t *cached, size_t cached_len);
 
 /* How many connection IDs to issue to the peer of a record, well formed or not. Refuses 7 for what is no image. */

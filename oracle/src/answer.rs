@@ -119,6 +119,12 @@ pub struct Answer {
     pub bytes: [u8; MOST],
 }
 
+impl PartialEq for Answer {
+    fn eq(&self, other: &Self) -> bool {
+        (self.code, self.number, self.due()) == (other.code, other.number, other.due())
+    }
+}
+
 impl Answer {
     pub fn refused(code: u8) -> Self {
         Answer { code, number: 0, len: 0, bytes: [0; MOST] }

@@ -4,7 +4,7 @@ use std::{cell::Cell, time::Instant};
 
 use crate::{
     answer::{Answer, Case, Op},
-    due::{self, By},
+    due::{self, By, REQUESTS},
     inputs::{self, Dice, EDGES},
     library,
     suite::Suite,
@@ -18,9 +18,9 @@ const SHOWN: u64 = 5;
 #[derive(Default, Clone, Copy)]
 struct Tally {
     cases: u64,
-    /// of these, the ones that quinn answered, and those on which request 02 parts from it; the others are held to the documents
+    /// of these, the ones that quinn answered, and those on which a request parts from it; the others are held to the documents
     quinn: u64,
-    request_02: u64,
+    requests: u64,
     accepted: u64,
     differences: u64,
 }
@@ -29,16 +29,16 @@ impl Tally {
     fn add(&mut self, t: &Tally) {
         self.cases += t.cases;
         self.quinn += t.quinn;
-        self.request_02 += t.request_02;
+        self.requests += t.requests;
         self.accepted += t.accepted;
         self.differences += t.differences;
     }
 
     fn line(&self, name: &str) {
-        let documents = self.cases - self.quinn - self.request_02;
+        let documents = self.cases - self.quinn - self.requests;
         println!(
-            "{name:<16}{:>12}{:>14}{documents:>14}{:>15}{:>12}{:>13}",
-            self.cases, self.quinn, self.request_02, self.accepted, self.differences
+            "{name:<16}{:>12}{:>14}{documents:>14}{:>13}{:>12}{:>13}",
+            self.cases, self.quinn, self.requests, self.accepted, self.differences
         );
     }
 }
@@ -58,9 +58,9 @@ fn show(c: &Case, want: &Answer, got: &library::Called) {
 }
 
 /// A difference planted on the library's side: in `read`, as if 20, the largest ack_delay_exponent, were 19; of a rearranged extension, as if the
-/// parameter at its front had to stay there; in `order_fault`, as if the earlier copy of a repeated entry were at fault; in each other operation,
-/// one bit of one answer, that of the 100th call that was accepted (the first of `default`, which has few). In `write` it is a bit of the byte
-/// before the output, in `tidy` of the byte behind it.
+/// parameter at its front had to stay there; in `order_fault`, as if the earlier copy of a repeated entry were at fault; in resumption, as if an
+/// absent datagram size counted below 0; in each other operation, one bit of one answer, that of the 100th call that was accepted (the first of
+/// `default`, which has few). In `write` it is a bit of the byte before the output, in `tidy` of the byte behind it.
 fn plant(c: &Case, nth: u64, got: &mut library::Called) {
     let now = nth == if c.op == Op::Default { 1 } else { 100 };
     match c.op {
@@ -70,9 +70,11 @@ fn plant(c: &Case, nth: u64, got: &mut library::Called) {
         Op::Read => {}
         Op::Rearranged | Op::TidyRearranged if !c.y.starts_with(inputs::parameters(c.x)[0].bytes) => *got = library::refused(1),
         Op::Rearranged | Op::TidyRearranged => {}
+        Op::Resume if matches!(due::by(c), By::Request05) => *got = library::refused(8),
+        Op::Resume => {}
         _ if !now => {}
         Op::NumberSize | Op::Issue | Op::Length => got.number ^= 1,
-        Op::Resume | Op::Check | Op::CheckOrder => got.code ^= 1,
+        Op::Check | Op::CheckOrder => got.code ^= 1,
         Op::Write => got.flip(-1),
         Op::Tidy => got.flip(c.room as isize),
         _ => got.flip(0),
@@ -80,7 +82,7 @@ fn plant(c: &Case, nth: u64, got: &mut library::Called) {
 }
 
 /// The parts of the documented run.
-const PARTS: [(&str, fn(&mut Suite)); 25] = [
+const PARTS: [(&str, fn(&mut Suite)); 26] = [
     ("default", |s| s.default()),
     ("shown", |s| s.shown()),
     ("real", |s| s.real(1, 500_000)),
@@ -106,7 +108,15 @@ const PARTS: [(&str, fn(&mut Suite)); 25] = [
     ("short", |s| s.short(3)),
     ("rearrangements", |s| s.rearrangements(5_000, 100)),
     ("order_faults", |s| s.order_faults(1_000_000)),
+    ("datagram_sizes", |s| s.datagram_sizes(10_000)),
 ];
+
+/// How many inputs of a request were skipped in the run against quinn, and to how many of them quinn gives another answer than the one due.
+#[derive(Default, Clone, Copy)]
+struct Skipped {
+    all: u64,
+    parted: u64,
+}
 
 /// How many other orders a part had read; how many with unknown parameters; with unknown ones of which an identifier or a length is in a longer
 /// form than it needs.
@@ -142,6 +152,7 @@ pub fn compare(planted: bool) {
     let mut tallies = [Tally::default(); Op::ALL.len()];
     let part = Cell::new(0);
     let mut shuffles = [Shuffles::default(); PARTS.len()];
+    let mut skipped = [Skipped::default(); REQUESTS.len()];
     let mut sink = |c: &Case| {
         let by = due::by(c);
         let want = due::answer_by(by, c);
@@ -150,8 +161,15 @@ pub fn compare(planted: bool) {
         t.cases += 1;
         match by {
             By::Quinn => t.quinn += 1,
-            By::Request02(_) => t.request_02 += 1,
             By::Documents => {}
+            By::Request02(_) | By::Request05 => t.requests += 1,
+        }
+        if let Some(i) = REQUESTS.iter().position(|(request, _)| *request == by.request()) {
+            skipped[i].all += 1;
+            skipped[i].parted += (due::answer_by(By::Quinn, c) != want) as u64;
+        }
+        if let (Op::Resume, By::Quinn) = (c.op, by) {
+            assert!(due::by_request_05(c) == want, "to every pair that is put to quinn request 05 gives quinn's answer");
         }
         t.accepted += (want.code == 0) as u64;
         if planted {
@@ -178,8 +196,8 @@ pub fn compare(planted: bool) {
     }
 
     println!(
-        "{:<16}{:>12}{:>14}{:>14}{:>15}{:>12}{:>13}",
-        "operation", "cases", "put to quinn", "by documents", "by request 02", "accepted", "differences"
+        "{:<16}{:>12}{:>14}{:>14}{:>13}{:>12}{:>13}",
+        "operation", "cases", "put to quinn", "by documents", "by requests", "accepted", "differences"
     );
     let mut sum = Tally::default();
     for ((_, name), t) in Op::ALL.iter().zip(&tallies) {
@@ -187,7 +205,10 @@ pub fn compare(planted: bool) {
         sum.add(t);
     }
     sum.line("all");
-    println!("skipped in the run against quinn, because they repeat grease_quic_bit or min_ack_delay: {}", sum.request_02);
+    println!("{:<58}{:>9}{:>25}", "skipped in the run against quinn", "cases", "quinn answers otherwise");
+    for ((request, inputs), n) in REQUESTS.iter().zip(&skipped) {
+        println!("{:<58}{:>9}{:>25}", format!("{request:02}: {inputs}"), n.all, n.parted);
+    }
     println!("{:<16}{:>12}{:>18}{:>26}", "rearranged of", "orders", "with unknown ones", "of these, in longer forms");
     let mut sum = Shuffles::default();
     for ((name, _), n) in PARTS.iter().zip(&shuffles).filter(|(_, n)| n.all > 0) {

@@ -1,9 +1,10 @@
 //! The answer that is due to a case: quinn's; where quinn has none, or parts from the product, the one that document 01 or 02 gives.
 
 use crate::{
+    VarInt,
     answer::{Answer, Case, Op},
     coding::BufExt,
-    image::CATALOGUE_ORDER,
+    image::{self, CATALOGUE_ORDER},
     rust,
 };
 
@@ -16,12 +17,24 @@ pub enum By {
     Documents,
     /// Request 02, where quinn is not asked: the extension has a second grease_quic_bit or min_ack_delay, which starts here.
     Request02(usize),
+    /// Request 05, where quinn is not asked: the cached datagram size is 0 and the new one absent.
+    Request05,
 }
+
+/// The requests that part product and quinn, and of which inputs.
+pub const REQUESTS: [(u8, &str); 2] = [
+    (2, "extensions that repeat grease_quic_bit or min_ack_delay"),
+    (5, "resumption from a datagram size of 0 to an absent one"),
+];
 
 impl By {
     /// The request that parts product and quinn here; 0 if none does.
     pub fn request(self) -> u8 {
-        if let By::Request02(_) = self { 2 } else { 0 }
+        match self {
+            By::Quinn | By::Documents => 0,
+            By::Request02(_) => 2,
+            By::Request05 => 5,
+        }
     }
 }
 
@@ -30,6 +43,7 @@ pub fn by(c: &Case) -> By {
         _ if c.declined != 0 => By::Documents,
         Op::CheckOrder | Op::OrderFault => By::Documents,
         Op::Read | Op::Tidy | Op::TidyTwice => second_copy(c.x).map_or(By::Quinn, By::Request02),
+        Op::Resume if size(c.x).is_none() && size(c.y) == Some(VarInt(0)) => By::Request05,
         _ => By::Quinn,
     }
 }
@@ -50,6 +64,11 @@ fn second_copy(x: &[u8]) -> Option<usize> {
             met[i] = true;
         }
     }
+}
+
+/// The max_datagram_frame_size of a record's image.
+fn size(image: &[u8]) -> Option<VarInt> {
+    image::to_record(image).max_datagram_frame_size
 }
 
 /// Document 01: an order is a permutation of 0 to 20.
@@ -83,12 +102,24 @@ fn by_request_02(c: &Case, start: usize) -> Answer {
     rust::answer(&Case { x: &[&c.x[..start], &[0x40]].concat(), ..*c })
 }
 
+/// Request 05: an absent size counts as 0, so that each record stands for the one which has that size. Between two sizes that are there quinn
+/// and the product do not part.
+pub fn by_request_05(c: &Case) -> Answer {
+    let with_size = |image: &[u8]| {
+        let mut p = image::to_record(image);
+        p.max_datagram_frame_size = p.max_datagram_frame_size.or(Some(VarInt(0)));
+        image::of_record(&p)
+    };
+    rust::answer(&Case { x: &with_size(c.x), y: &with_size(c.y), ..*c })
+}
+
 /// 5 if the output is shorter than the bytes due.
 pub fn answer_by(by: By, c: &Case) -> Answer {
     let a = match by {
         By::Quinn => rust::answer(c),
         By::Documents => by_documents(c),
         By::Request02(start) => by_request_02(c, start),
+        By::Request05 => by_request_05(c),
     };
     if c.room < a.len { Answer::refused(5) } else { a }
 }

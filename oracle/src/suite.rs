@@ -10,6 +10,9 @@ use crate::{
     transport_parameters::TransportParameters,
 };
 
+/// Datagram sizes.
+const SIZES: [Option<u64>; 5] = [None, Some(0), Some(1), Some(65535), Some(MAX)];
+
 pub struct Suite<'a> {
     pub d: Dice,
     /// Draws the other orders of extensions, apart from everything else.
@@ -603,7 +606,6 @@ impl Suite<'_> {
 
     /// A record and one that differs from it in one field, or in any; both ways round.
     pub fn resumption(&mut self, n: usize) {
-        let sizes = [None, Some(0), Some(1), Some(65535), Some(MAX)];
         for i in 0..n {
             let legal = self.d.one_in(2);
             let p = inputs::record(&mut self.d, legal);
@@ -617,7 +619,7 @@ impl Suite<'_> {
                         let other = self.d.number();
                         x.0 = self.d.of(&[x.0.saturating_sub(1), (x.0 + 1).min(MAX), other]);
                     }
-                    11 => q.max_datagram_frame_size = self.d.of(&sizes).map(VarInt),
+                    11 => q.max_datagram_frame_size = self.d.of(&SIZES).map(VarInt),
                     12 => q.grease_quic_bit = !q.grease_quic_bit,
                     _ => {
                         // the limits stay, all else differs
@@ -634,11 +636,37 @@ impl Suite<'_> {
             (self.sink)(&Case { y: &y, ..Case::new(Op::Resume, 0, &x, 0) });
             (self.sink)(&Case { y: &x, ..Case::new(Op::Resume, 0, &y, 0) });
         }
-        for (a, b) in sizes.iter().flat_map(|a| sizes.map(|b| (*a, b))) {
+        for (a, b) in SIZES.iter().flat_map(|a| SIZES.map(|b| (*a, b))) {
             let image = |s: Option<u64>| {
                 image::of_record(&TransportParameters { max_datagram_frame_size: s.map(VarInt), ..TransportParameters::default() })
             };
             (self.sink)(&Case { y: &image(b), ..Case::new(Op::Resume, 0, &image(a), 0) });
+        }
+    }
+
+    /// Two records that are alike but for their datagram sizes, each size with each; of every other two one limit, or grease_quic_bit, is reduced
+    /// besides.
+    pub fn datagram_sizes(&mut self, n: usize) {
+        for i in 0..n {
+            let legal = self.d.one_in(2);
+            let mut new = inputs::record(&mut self.d, legal);
+            let mut cached = new;
+            if i % 2 == 1 {
+                match self.d.below(8) {
+                    7 => (cached.grease_quic_bit, new.grease_quic_bit) = (true, false),
+                    k => {
+                        let limit = [2, 3, 4, 5, 6, 7, 10][k];
+                        let old = self.d.number().max(1);
+                        image::numbers(&mut cached)[limit].0 = old;
+                        image::numbers(&mut new)[limit].0 = old - 1;
+                    }
+                }
+            }
+            for (a, b) in SIZES.iter().flat_map(|a| SIZES.map(|b| (*a, b))) {
+                new.max_datagram_frame_size = a.map(VarInt);
+                cached.max_datagram_frame_size = b.map(VarInt);
+                (self.sink)(&Case { y: &image::of_record(&cached), ..Case::new(Op::Resume, 0, &image::of_record(&new), 0) });
+            }
         }
     }
 

@@ -516,6 +516,32 @@ static void resumption(void)
     REFUSES(7, yuthpram_issue_cids_limit(image, RECORD - 1, &value));
 }
 
+// Each datagram size resumed to from each: an absent one counts as 0. Reading and writing tell it from 0.
+static void datagram_sizes(void)
+{
+    static const uint64_t sizes[] = { 0, 0, 1, 65535, BOUND - 1 }; // the first is absent
+    static const uint8_t zero[] = { 0x20, 0x01, 0x00 };
+    uint8_t images[5][RECORD];
+    for (size_t i = 0; i < 5; i++) {
+        default_record(images[i]);
+        images[i][90] = i > 0;
+        put(images[i], 91, sizes[i]);
+    }
+    for (size_t i = 0; i < 5; i++)
+        for (size_t j = 0; j < 5; j++)
+            CHECK(yuthpram_validate_resumption_from(images[i], RECORD, images[j], RECORD) == (sizes[i] < sizes[j] ? 8 : 0));
+
+    for (size_t i = 0; i < 2; i++) {
+        size_t due = 3 * i;
+        ACCEPTS(yuthpram_read(YUTHPRAM_CLIENT, zero, due, out, RECORD));
+        CHECK(memcmp(out, images[i], RECORD) == 0);
+        ACCEPTS(yuthpram_write(images[i], RECORD, out, sizeof out, &count));
+        CHECK(count == due && memcmp(out, zero, due) == 0 && kept(due));
+        ACCEPTS(yuthpram_tidy(YUTHPRAM_CLIENT, zero, due, out, sizeof out, &count));
+        CHECK(count == due && memcmp(out, zero, due) == 0 && kept(due));
+    }
+}
+
 // What is no image is 7 in every function that takes one.
 static void no_images(void)
 {
@@ -619,6 +645,7 @@ int main(void)
     building();
     not_building();
     resumption();
+    datagram_sizes();
     no_images();
     nothing();
     yes_or_no();

@@ -271,6 +271,16 @@ impl TransportParameters {
     /// assert_eq!(fresh.validate_resumption_from(&remembered), Err(Error::LimitReduced));
     /// assert_eq!(remembered.validate_resumption_from(&fresh), Ok(()));
     /// ```
+    ///
+    /// An absent max_datagram_frame_size counts as 0, its default (RFC 9221 section 3), where quinn refuses it. The two records differ all the same:
+    ///
+    /// ```
+    /// # use yuthpram::TransportParameters;
+    /// let of_size = |size| TransportParameters { max_datagram_frame_size: size, ..Default::default() };
+    /// let (fresh, remembered) = (of_size(None), of_size(Some(0u32.into())));
+    /// assert_eq!(fresh.validate_resumption_from(&remembered), Ok(()));
+    /// assert_ne!(fresh, remembered);
+    /// ```
     pub fn validate_resumption_from(&self, cached: &Self) -> Result<(), Error> {
         let (image, cached) = (image::image_of(self), image::image_of(cached));
         Error::of(unsafe { ffi::yuthpram_validate_resumption_from(image.as_ptr(), image.len(), cached.as_ptr(), cached.len()) })

@@ -82,6 +82,23 @@ fn resumption_in_both_directions() {
     assert_eq!(Error::LimitReduced.code(), Some(0x0a));
 }
 
+/// An absent datagram size counts as 0 for resumption, whichever side has it; equality, reading and writing tell it from 0.
+#[test]
+fn an_absent_datagram_size() {
+    let of_size = |size: Option<u32>| TransportParameters { max_datagram_frame_size: size.map(Into::into), ..full() };
+    let sizes = [None, Some(0), Some(1), Some(65535)];
+    for (new, cached) in sizes.iter().flat_map(|a| sizes.map(|b| (*a, b))) {
+        let due = if new.unwrap_or(0) < cached.unwrap_or(0) { Err(Error::LimitReduced) } else { Ok(()) };
+        assert_eq!(of_size(new).validate_resumption_from(&of_size(cached)), due);
+        assert_eq!(of_size(new) == of_size(cached), new == cached);
+    }
+    for size in sizes {
+        let mut out = [0; TransportParameters::MAX_SIZE];
+        let n = of_size(size).write(&mut out).unwrap();
+        assert_eq!(TransportParameters::read(Side::Client, &out[..n]), Ok(of_size(size)));
+    }
+}
+
 /// The order and the reserved parameter are outside equality; every other field is within it.
 #[test]
 fn equality() {

@@ -1,5 +1,6 @@
--- The worked examples (a) to (n), some lengths, second copies, other orders and faults of an order: for each a side, an operation, its input and
--- the outcome. The definitions are those that the contracts of reading, tidying, writing, the length and the first fault of an order cite.
+-- The worked examples (a) to (n), some lengths, second copies, other orders, faults of an order and datagram sizes: for each a side, an operation,
+-- its input and the outcome. The definitions are those that the contracts of reading, tidying, writing, the length, the first fault of an order and
+-- resumption cite.
 use Prim.Native.Nat.{ℕ}
 use mathlib.Core.Path.{_≡_}
 use mathlib.Core.List.{List, [], _∷_, _++_}
@@ -21,6 +22,8 @@ use Rattle.reader.specs.Reading.{read}
 use Rattle.writer.specs.Writing.{write, lengthOf}
 use Rattle.order.specs.Order.{orderFault}
 use Rattle.tidy.specs.Tidying.{tidy}
+use Rattle.resumption.specs.Resumption.{resume}
+use Rattle.resumption.specs.AbsentAsZero.{sized}
 
 pub data Example : Type 0 where
   -- an extension that a side reads
@@ -33,6 +36,8 @@ pub data Example : Type 0 where
   measuring : TransportParameters → Outcome ℕ → Example
   -- an order, and the position of its first fault
   ordering : List ℕ → Option ℕ → Example
+  -- a record that is resumed to, and the one remembered
+  resuming : TransportParameters → TransportParameters → Outcome (Unit {0}) → Example
 
 -- what an example states. The buffers of tidying and writing are exactly long enough
 abbrev pub Holds : Example → Type 0
@@ -41,6 +46,7 @@ Holds (tidying s e t) = tidy s e (replicate (length t) 0) ≡ (accepted (length 
 Holds (writing r t) = write r (replicate (length t) 0) ≡ (accepted (length t), t)
 Holds (measuring r o) = lengthOf r ≡ o
 Holds (ordering os o) = orderFault os ≡ o
+Holds (resuming new cached o) = resume new cached ≡ o
 
 abbrev pub Each : List Example → Type 0
 Each [] = Unit {0}
@@ -77,6 +83,10 @@ numbers idle payload delay = idle ∷ payload ∷ 0 ∷ 0 ∷ 0 ∷ 0 ∷ 0 ∷ 
 
 abbrev pub plain : List ℕ → TransportParameters
 plain ns = with ns false false Absent noOrder
+
+-- the default record with a datagram size
+abbrev pub datagrams : OptionalNumber → TransportParameters
+datagrams size = sized size defaultRecord
 
 abbrev pub reversed : WriteOrder
 reversed =
@@ -161,4 +171,11 @@ examples =
     ∷ ordering (take 20 (reversed .places)) (some 20)
     ∷ ordering (reversed .places) none
     ∷ ordering (reversed .places ++ (0 ∷ [])) (some 21)
+    ∷  -- datagram sizes (request 05): for resumption absent is 0, and less than 1; reading and writing tell it from 0
+    resuming (datagrams Absent) (datagrams (Present 0)) (accepted tt)
+    ∷ resuming (datagrams (Present 0)) (datagrams Absent) (accepted tt)
+    ∷ resuming (datagrams Absent) (datagrams (Present 1)) (refused 8)
+    ∷ reading Client (0x20 ∷ 0x01 ∷ 0x00 ∷ []) (accepted (datagrams (Present 0)))
+    ∷ writing (datagrams (Present 0)) (0x20 ∷ 0x01 ∷ 0x00 ∷ [])
+    ∷ writing (datagrams Absent) []
     ∷ []

@@ -8,27 +8,14 @@ use lib.ListN.{length}
 use Rattle.refusal.specs.Outcome.{accepted, refused, front}
 use Rattle.catalogue.specs.Catalogue.{places}
 use Rattle.record.specs.declared.TransportParameters.{TransportParameters}
+use Rattle.record.specs.Record.{having}
 use Rattle.record.specs.Fields.{orderFrom}
 use Rattle.order.specs.Order.{permutation}
 use Rattle.writer.specs.Writing.{extension, maxExtension, orderOf, write, lengthOf}
 
 -- the record once its order is drawn
 unfoldable pub drawn : TransportParameters → List ℕ → TransportParameters
-drawn r os =
-    record {
-      numbers = r .numbers;
-      «disable_active_migration» = r .«disable_active_migration»;
-      «max_datagram_frame_size» = r .«max_datagram_frame_size»;
-      «initial_src_cid» = r .«initial_src_cid»;
-      «grease_quic_bit» = r .«grease_quic_bit»;
-      «min_ack_delay» = r .«min_ack_delay»;
-      «original_dst_cid» = r .«original_dst_cid»;
-      «retry_src_cid» = r .«retry_src_cid»;
-      «stateless_reset_token» = r .«stateless_reset_token»;
-      «preferred_address» = r .«preferred_address»;
-      «grease_transport_parameter» = r .«grease_transport_parameter»;
-      «write_order» = orderFrom true os;
-    }
+drawn r os = having (r .«max_datagram_frame_size») (r .«grease_transport_parameter») (orderFrom true os) r
 
 pub record Measure : Type 0 where
   -- whatever permutation is drawn later: writing stores exactly so many bytes, and refuses 5 exactly if the buffer is shorter

@@ -116,13 +116,13 @@ familyRules a =
 abbrev pub defaultRecord : TransportParameters
 defaultRecord = recordOf noValues
 
--- RECORD EQUALITY leaves out the order and the reserved parameter: the record without them
-unfoldable pub bare : TransportParameters → TransportParameters
-bare r =
+-- a record with this datagram size, reserved parameter and order, and all else as it is
+abbrev pub having : OptionalNumber → ReservedTransportParameter → WriteOrder → TransportParameters → TransportParameters
+having size reserved order r =
     record {
       numbers = r .numbers;
       «disable_active_migration» = r .«disable_active_migration»;
-      «max_datagram_frame_size» = r .«max_datagram_frame_size»;
+      «max_datagram_frame_size» = size;
       «initial_src_cid» = r .«initial_src_cid»;
       «grease_quic_bit» = r .«grease_quic_bit»;
       «min_ack_delay» = r .«min_ack_delay»;
@@ -130,6 +130,10 @@ bare r =
       «retry_src_cid» = r .«retry_src_cid»;
       «stateless_reset_token» = r .«stateless_reset_token»;
       «preferred_address» = r .«preferred_address»;
-      «grease_transport_parameter» = noReserved;
-      «write_order» = noOrder;
+      «grease_transport_parameter» = reserved;
+      «write_order» = order;
     }
+
+-- RECORD EQUALITY leaves out the order and the reserved parameter: the record without them
+unfoldable pub bare : TransportParameters → TransportParameters
+bare r = having (r .«max_datagram_frame_size») noReserved noOrder r

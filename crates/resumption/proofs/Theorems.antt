@@ -1,8 +1,9 @@
 -- What holds of resumption. Assumes nothing.
 --     resumes-itself     a well-formed record resumes from itself
 --     resumes-through    what resumes from a record that resumes from another resumes from that one
+--     absent-as-zero     on either side an absent datagram size and one of 0 are the same
 use Prim.Native.Nat.{ℕ}
-use mathlib.Core.Path.{_≡_, refl}
+use mathlib.Core.Path.{_≡_, refl, ap}
 use mathlib.Core.List.{List, [], _∷_}
 use mathlib.Core.Bool.{Bool, true, false, _&&_, _||_, not, not-or-self}
 use native.Mathlib.Omega.{arith}
@@ -14,8 +15,11 @@ use Rattle.refusal.specs.Outcome.{Outcome, accepted, refused, pick, all}
 use Rattle.refusal.proofs.Laws.{all-at}
 use Rattle.record.specs.declared.TransportParameters.{TransportParameters}
 use Rattle.words.specs.Words.{every}
-use Rattle.record.specs.Record.{wellFormed}
+use Rattle.record.specs.declared.OptionalNumber.{OptionalNumber}
+use Rattle.record.specs.declared.OptionalNumber.the-variants.{Absent, Present}
+use Rattle.record.specs.Record.{formedOptional, wellFormed, bare}
 use Rattle.resumption.specs.Resumption.{remembered, limitsKept, sizeRank, nothingReduced, resume}
+use Rattle.resumption.specs.AbsentAsZero.{sized, AbsentAsZero}
 
 -- orders of numbers, as tests
 leb-refl : (n : ℕ) → leb n n ≡ true
@@ -107,3 +111,31 @@ resumes-through a b c h k =
     let x = resumed b a h in
     let y = resumed c b k in
     resumes c a (record { formed = y .formed; formed-before = x .formed-before; kept = kept-through a b c (kept-facts b a (x .kept)) (kept-facts c b (y .kept)) })
+
+-- what resumption looks at is the same for both
+formed-alike : (r : TransportParameters) → wellFormed (sized Absent r) ≡ wellFormed (sized (Present 0) r)
+unfolding sized wellFormed formedOptional
+formed-alike r = refl
+
+new-alike : (new cached : TransportParameters) → nothingReduced (sized Absent new) cached ≡ nothingReduced (sized (Present 0) new) cached
+unfolding sized nothingReduced sizeRank
+new-alike new cached = refl
+
+cached-alike : (new cached : TransportParameters) → nothingReduced new (sized Absent cached) ≡ nothingReduced new (sized (Present 0) cached)
+unfolding sized nothingReduced sizeRank
+cached-alike new cached = refl
+
+absent-is-not-zero : (r s : TransportParameters) → bare (sized Absent r) ≡ bare (sized (Present 0) s) → ⊥
+unfolding sized bare
+absent-is-not-zero r s e =
+    let size : Absent ≡ Present 0 = ap (λ (q : TransportParameters). q .«max_datagram_frame_size») e in
+    let z : _≡_ {A = ℕ} 0 1 = cc in omega arith
+
+pub absent-as-zero : AbsentAsZero
+unfolding resume
+absent-as-zero =
+    record {
+      asNew = λ new cached. rw (formed-alike new, new-alike new cached);
+      asCached = λ new cached. rw (formed-alike cached, cached-alike new cached);
+      apart = absent-is-not-zero;
+    }

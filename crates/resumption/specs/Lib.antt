@@ -1,1 +1,2 @@
+pub mod AbsentAsZero
 pub mod Resumption

@@ -1,6 +1,6 @@
 -- Resumption from remembered parameters (RFC 9000 section 7.4.1, RFC 9221 section 3, RFC 9287 section 3), and how many connection IDs are
 -- issued to a peer (RFC 9000 section 18.2).
-use Prim.Native.Nat.{ℕ, _+_, min}
+use Prim.Native.Nat.{ℕ, min}
 use mathlib.Core.List.{List, [], _∷_}
 use mathlib.Core.Bool.{Bool, _&&_, _||_, not}
 use lib.ListN.{getD}
@@ -8,9 +8,8 @@ use lib.Dec.{leb}
 use Rattle.refusal.specs.Outcome.{Outcome, accepted, refused, pick, all}
 use Rattle.record.specs.declared.TransportParameters.{TransportParameters}
 use Rattle.record.specs.declared.OptionalNumber.{OptionalNumber}
-use Rattle.record.specs.declared.OptionalNumber.the-variants.{Absent, Present}
 use Rattle.words.specs.Words.{every}
-use Rattle.record.specs.Record.{wellFormed}
+use Rattle.record.specs.Record.{least, wellFormed}
 
 -- the places of the limits that are remembered for 0-RTT (RFC 9000 section 7.4.1): active_connection_id_limit, initial_max_data,
 -- initial_max_stream_data_bidi_local, _bidi_remote and _uni, initial_max_streams_bidi and _uni
@@ -21,10 +20,9 @@ remembered = 10 ∷ 2 ∷ 3 ∷ 4 ∷ 5 ∷ 6 ∷ 7 ∷ []
 unfoldable pub limitsKept : List ℕ → List ℕ → Bool
 limitsKept new cached = every (λ p. leb (getD cached p 0) (getD new p 0)) remembered
 
--- max_datagram_frame_size (RFC 9221 section 3): absent counts below 0
+-- max_datagram_frame_size (RFC 9221 section 3): its default is 0, so an absent one counts as 0
 unfoldable pub sizeRank : OptionalNumber → ℕ
-sizeRank Absent = 0
-sizeRank (Present x) = x + 1
+sizeRank = least
 
 -- a remembered grease_quic_bit is not withdrawn (RFC 9287 section 3)
 unfoldable pub nothingReduced : TransportParameters → TransportParameters → Bool

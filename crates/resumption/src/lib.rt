@@ -52,7 +52,7 @@ fn limits_kept<'a>(new: &'a [u64; NUMBERS], cached: &'a [u64; NUMBERS]) -> bool
     )
 }
 
-// Whether the datagram size is not reduced: absent is below every size.
+// Whether the datagram size is not reduced: an absent one counts as 0.
 fn size_kept(new: OptionalNumber, cached: OptionalNumber) -> bool
     ensures { λ r. ⌜ r ≡ leb (sizeRank cached) (sizeRank new) ⌝ }
 {
@@ -62,12 +62,12 @@ fn size_kept(new: OptionalNumber, cached: OptionalNumber) -> bool
     }
 }
 
-// Whether a datagram size is there and no smaller than `old`.
+// Whether a datagram size is no smaller than `old`.
 fn at_least(new: OptionalNumber, old: u64) -> bool
     ensures { λ r. ⌜ r ≡ leb (sizeRank (OptionalNumber.Present old)) (sizeRank new) ⌝ }
 {
     match new {
-        OptionalNumber::Absent => false,
+        OptionalNumber::Absent => old == 0,
         OptionalNumber::Present(x) => old <= x,
     }
 }

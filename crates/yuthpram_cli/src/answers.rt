@@ -6,6 +6,7 @@ use catalogue::PLACES;
 use explain::note_culprit;
 use explain::note_order_fault;
 use explain::note_reading;
+use explain::note_reduced;
 use explain::note_refusal;
 use image::RECORD_SIZE;
 use libc::STDERR_FILENO;
@@ -134,6 +135,28 @@ pub fn length(text: &[u8]) -> Status {
         }
         Counted::Refused(r) => refused(r),
     }
+}
+
+// Tells whether a record may be resumed to from a remembered one, both in text form, and if not, which limits it reduces.
+pub fn validate_resumption_from(text: &[u8], remembered: &[u8]) -> Status {
+    let mut record = [0u8; RECORD_SIZE];
+    let mut cached = [0u8; RECORD_SIZE];
+    if !form::fill(remembered, &mut cached) {
+        note(b"yuthpram: in the remembered record\n");
+        return Status::Misused;
+    }
+    if !form::fill(text, &mut record) {
+        return Status::Misused;
+    }
+    let Answer::Refused(r) = by_image::validate_resumption_from(&record, &cached) else {
+        say(b"accepted\n");
+        return Status::Answered;
+    };
+    refused(r);
+    if let Refusal::LimitReduced = r {
+        note_reduced(&record, &cached);
+    }
+    Status::Refused
 }
 
 // Which rule a record breaks: that which its extension breaks, or that no family that is given is all zero.

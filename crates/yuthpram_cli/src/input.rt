@@ -148,7 +148,7 @@ fn hex_at(start: usize, out: &mut [u8]) -> Input {
 }
 
 // The file that argument `i` names, or standard input.
-fn file_at(i: usize, out: &mut [u8]) -> Input {
+pub fn file_at(i: usize, out: &mut [u8]) -> Input {
     if os::arg_count() <= i {
         return read_all(STDIN_FILENO, out);
     }

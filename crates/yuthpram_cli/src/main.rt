@@ -32,7 +32,9 @@ const LENGTH: usize = 4;
 
 const ORDER_FAULT: usize = 5;
 
-const NUMBER: usize = 6;
+const VALIDATE_RESUMPTION_FROM: usize = 6;
+
+const NUMBER: usize = 7;
 
 fn encode_command() -> Status {
     if is_followed(3) {
@@ -52,6 +54,21 @@ fn order_fault_command() -> Status {
         return Status::Misused;
     };
     answers::order_fault(first(n, &order))
+}
+
+fn validate_resumption_from_command() -> Status {
+    if os::arg_count() < 3 {
+        return help::misused(b"yuthpram: no file of the remembered record\n");
+    }
+    let mut cached = io::large_buffer();
+    let Input::Bytes(m) = input::file_at(2, &mut cached) else {
+        return Status::Misused;
+    };
+    let mut src = io::large_buffer();
+    let Input::Bytes(n) = input::input_at(3, true, &mut src) else {
+        return Status::Misused;
+    };
+    answers::validate_resumption_from(first(n, &src), first(m, &cached))
 }
 
 // Where the words of a command's input start: behind its side, if it names one, and behind --record.
@@ -96,8 +113,8 @@ fn run() -> Status {
     }
     let command = choice(
         1,
-        b"read tidy check write length order_fault number --help -h",
-        9,
+        b"read tidy check write length order_fault validate_resumption_from number --help -h",
+        10,
     );
     if command == NUMBER {
         if choice(2, b"--write", 1) == 0 {
@@ -107,10 +124,13 @@ fn run() -> Status {
     if command == ORDER_FAULT {
         return order_fault_command();
     }
+    if command == VALIDATE_RESUMPTION_FROM {
+        return validate_resumption_from_command();
+    }
     if command <= NUMBER {
         return operate(command);
     }
-    if command == 9 {
+    if command == 10 {
         return help::misused(b"yuthpram: no such command\n");
     }
     help::say_help()
