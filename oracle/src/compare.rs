@@ -205,9 +205,9 @@ pub fn compare(planted: bool) {
         sum.add(t);
     }
     sum.line("all");
-    println!("{:<58}{:>9}{:>25}", "skipped in the run against quinn", "cases", "quinn answers otherwise");
+    println!("{:<60}{:>9}{:>25}", "skipped in the run against quinn", "cases", "quinn answers otherwise");
     for ((request, inputs), n) in REQUESTS.iter().zip(&skipped) {
-        println!("{:<58}{:>9}{:>25}", format!("{request:02}: {inputs}"), n.all, n.parted);
+        println!("{:<60}{:>9}{:>25}", format!("{request:02}: {inputs}"), n.all, n.parted);
     }
     println!("{:<16}{:>12}{:>18}{:>26}", "rearranged of", "orders", "with unknown ones", "of these, in longer forms");
     let mut sum = Shuffles::default();

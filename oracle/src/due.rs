@@ -22,10 +22,8 @@ pub enum By {
 }
 
 /// The requests that part product and quinn, and of which inputs.
-pub const REQUESTS: [(u8, &str); 2] = [
-    (2, "extensions that repeat grease_quic_bit or min_ack_delay"),
-    (5, "resumption from a datagram size of 0 to an absent one"),
-];
+pub const REQUESTS: [(u8, &str); 2] =
+    [(2, "extensions that repeat grease_quic_bit or min_ack_delay"), (5, "resumption from a datagram size of 0 to an absent one")];
 
 impl By {
     /// The request that parts product and quinn here; 0 if none does.
