@@ -15,7 +15,6 @@ use Rattle.refusal.specs.Outcome.{Outcome, accepted, refused, pick, all}
 use Rattle.refusal.proofs.Laws.{all-at}
 use Rattle.record.specs.declared.TransportParameters.{TransportParameters}
 use Rattle.words.specs.Words.{every}
-use Rattle.record.specs.declared.OptionalNumber.{OptionalNumber}
 use Rattle.record.specs.declared.OptionalNumber.the-variants.{Absent, Present}
 use Rattle.record.specs.Record.{formedOptional, wellFormed, bare}
 use Rattle.resumption.specs.Resumption.{remembered, limitsKept, sizeRank, nothingReduced, resume}
@@ -112,30 +111,14 @@ resumes-through a b c h k =
     let y = resumed c b k in
     resumes c a (record { formed = y .formed; formed-before = x .formed-before; kept = kept-through a b c (kept-facts b a (x .kept)) (kept-facts c b (y .kept)) })
 
--- what resumption looks at is the same for both
-formed-alike : (r : TransportParameters) → wellFormed (sized Absent r) ≡ wellFormed (sized (Present 0) r)
-unfolding sized wellFormed formedOptional
-formed-alike r = refl
-
-new-alike : (new cached : TransportParameters) → nothingReduced (sized Absent new) cached ≡ nothingReduced (sized (Present 0) new) cached
-unfolding sized nothingReduced sizeRank
-new-alike new cached = refl
-
-cached-alike : (new cached : TransportParameters) → nothingReduced new (sized Absent cached) ≡ nothingReduced new (sized (Present 0) cached)
-unfolding sized nothingReduced sizeRank
-cached-alike new cached = refl
-
-absent-is-not-zero : (r s : TransportParameters) → bare (sized Absent r) ≡ bare (sized (Present 0) s) → ⊥
-unfolding sized bare
-absent-is-not-zero r s e =
-    let size : Absent ≡ Present 0 = ap (λ (q : TransportParameters). q .«max_datagram_frame_size») e in
-    let z : _≡_ {A = ℕ} 0 1 = cc in omega arith
-
+-- what resumption looks at computes to the same for both
 pub absent-as-zero : AbsentAsZero
-unfolding resume
+unfolding sized bare wellFormed formedOptional sizeRank nothingReduced resume
 absent-as-zero =
     record {
-      asNew = λ new cached. rw (formed-alike new, new-alike new cached);
-      asCached = λ new cached. rw (formed-alike cached, cached-alike new cached);
-      apart = absent-is-not-zero;
+      asNew = λ new cached. refl;
+      asCached = λ new cached. refl;
+      apart = λ r s e.
+          let size : Absent ≡ Present 0 = ap (λ (q : TransportParameters). q .«max_datagram_frame_size») e in
+          let z : _≡_ {A = ℕ} 0 1 = cc in omega arith;
     }

@@ -1,5 +1,9 @@
 -- `resumption::size_kept` meets its contract. Assumes nothing.
-use Rattle.resumption.proofs.Laws.{from-none}
+use mathlib.Core.Path.{refl, ap}
+use mathlib.Core.Bool.{true≢false}
+use native.Mathlib.Omega.{arith}
+use Rattle.resumption.specs.Resumption.{sizeRank}
+use Rattle.resumption.proofs.Laws.{told}
 use borrow.Author.Needs.{needs}
 use Rattle.resumption.proofs.size_kept.Statement.{statement}
 use Rattle.resumption.proofs.size_kept.Tie as tie
@@ -8,7 +12,8 @@ enum-told : tie.Need-enum-told
 enum-told c = search needs
 
 returns : tie.Need-returns
-returns c = from-none _ _ (c .enum-told .given .1)
+unfolding sizeRank
+returns c = told _ _ _ _ _ (ap sizeRank (c .enum-told .given .1)) refl (λ h. omega arith) (λ h. omega (arith, true≢false))
 
 returns-2 : tie.Need-returns-2
 returns-2 c = rw (c .before .before .cached .given .1) (c .at-least .ensures)
