@@ -147,30 +147,22 @@ impl Shuffles {
     }
 }
 
-pub fn compare(planted: bool) {
-    let start = Instant::now();
-    let mut tallies = [Tally::default(); Op::ALL.len()];
-    let part = Cell::new(0);
-    let mut shuffles = [Shuffles::default(); PARTS.len()];
-    let mut skipped = [Skipped::default(); REQUESTS.len()];
-    let mut sink = |c: &Case| {
+/// What a run counts: by operation, by request, and by part of the run.
+#[derive(Default)]
+struct Counts {
+    tallies: [Tally; Op::ALL.len()],
+    skipped: [Skipped; REQUESTS.len()],
+    shuffles: [Shuffles; PARTS.len()],
+}
+
+impl Counts {
+    /// Makes a call, and says whether it is to be accepted.
+    fn take(&mut self, part: usize, c: &Case, planted: bool) -> bool {
         let by = due::by(c);
         let want = due::answer_by(by, c);
         let mut got = library::call(c);
-        let t = &mut tallies[c.op as usize];
+        let t = &mut self.tallies[c.op as usize];
         t.cases += 1;
-        match by {
-            By::Quinn => t.quinn += 1,
-            By::Documents => {}
-            By::Request02(_) | By::Request05 => t.requests += 1,
-        }
-        if let Some(i) = REQUESTS.iter().position(|(request, _)| *request == by.request()) {
-            skipped[i].all += 1;
-            skipped[i].parted += (due::answer_by(By::Quinn, c) != want) as u64;
-        }
-        if let (Op::Resume, By::Quinn) = (c.op, by) {
-            assert!(due::by_request_05(c) == want, "to every pair that is put to quinn request 05 gives quinn's answer");
-        }
         t.accepted += (want.code == 0) as u64;
         if planted {
             plant(c, t.accepted, &mut got);
@@ -181,47 +173,75 @@ pub fn compare(planted: bool) {
                 show(c, &want, &got);
             }
         }
+        self.count_by(c, by, &want);
         if c.other_order().is_some() {
             assert_eq!(want.code, 0, "only what is accepted is rearranged");
         }
         if c.op == Op::Rearranged {
-            shuffles[part.get()].count(c.y);
+            self.shuffles[part].count(c.y);
         }
         want.code == 0
-    };
+    }
+
+    /// Counts who said what is due.
+    fn count_by(&mut self, c: &Case, by: By, want: &Answer) {
+        let t = &mut self.tallies[c.op as usize];
+        if let Some(i) = REQUESTS.iter().position(|(request, _)| *request == by.request()) {
+            t.requests += 1;
+            self.skipped[i].all += 1;
+            self.skipped[i].parted += (due::answer_by(By::Quinn, c) != *want) as u64;
+        }
+        if let By::Quinn = by {
+            t.quinn += 1;
+            if c.op == Op::Resume {
+                assert!(due::by_request_05(c) == *want, "to every pair that is put to quinn request 05 gives quinn's answer");
+            }
+        }
+    }
+
+    fn print(&self) {
+        println!(
+            "{:<16}{:>12}{:>14}{:>14}{:>13}{:>12}{:>13}",
+            "operation", "cases", "put to quinn", "by documents", "by requests", "accepted", "differences"
+        );
+        let mut sum = Tally::default();
+        for ((_, name), t) in Op::ALL.iter().zip(&self.tallies) {
+            t.line(name);
+            sum.add(t);
+        }
+        sum.line("all");
+        println!("{:<60}{:>9}{:>25}", "skipped in the run against quinn", "cases", "quinn answers otherwise");
+        for ((request, inputs), n) in REQUESTS.iter().zip(&self.skipped) {
+            println!("{:<60}{:>9}{:>25}", format!("{request:02}: {inputs}"), n.all, n.parted);
+        }
+        println!("{:<16}{:>12}{:>18}{:>26}", "rearranged of", "orders", "with unknown ones", "of these, in longer forms");
+        let mut sum = Shuffles::default();
+        for ((name, _), n) in PARTS.iter().zip(&self.shuffles).filter(|(_, n)| n.all > 0) {
+            n.line(name);
+            sum.add(n);
+        }
+        sum.line("all");
+    }
+}
+
+pub fn compare(planted: bool) {
+    let start = Instant::now();
+    let mut counts = Counts::default();
+    let part = Cell::new(0);
+    let mut sink = |c: &Case| counts.take(part.get(), c, planted);
     let mut suite = Suite { d: Dice(SEED), shuffles: Dice(!SEED), sink: &mut sink };
     for (i, (_, run)) in PARTS.iter().enumerate() {
         part.set(i);
         run(&mut suite);
     }
-
-    println!(
-        "{:<16}{:>12}{:>14}{:>14}{:>13}{:>12}{:>13}",
-        "operation", "cases", "put to quinn", "by documents", "by requests", "accepted", "differences"
-    );
-    let mut sum = Tally::default();
-    for ((_, name), t) in Op::ALL.iter().zip(&tallies) {
-        t.line(name);
-        sum.add(t);
-    }
-    sum.line("all");
-    println!("{:<60}{:>9}{:>25}", "skipped in the run against quinn", "cases", "quinn answers otherwise");
-    for ((request, inputs), n) in REQUESTS.iter().zip(&skipped) {
-        println!("{:<60}{:>9}{:>25}", format!("{request:02}: {inputs}"), n.all, n.parted);
-    }
-    println!("{:<16}{:>12}{:>18}{:>26}", "rearranged of", "orders", "with unknown ones", "of these, in longer forms");
-    let mut sum = Shuffles::default();
-    for ((name, _), n) in PARTS.iter().zip(&shuffles).filter(|(_, n)| n.all > 0) {
-        n.line(name);
-        sum.add(n);
-    }
-    sum.line("all");
+    counts.print();
     println!("seed {SEED:#x}, {:.1} seconds", start.elapsed().as_secs_f64());
-    let found = tallies.iter().filter(|t| t.differences > 0).count();
+    let operations = counts.tallies.len();
+    let found = counts.tallies.iter().filter(|t| t.differences > 0).count();
     if planted {
-        println!("a planted difference was found in {found} of {} operations", tallies.len());
+        println!("a planted difference was found in {found} of {operations} operations");
     }
-    if found != if planted { tallies.len() } else { 0 } {
+    if found != if planted { operations } else { 0 } {
         std::process::exit(1);
     }
 }

@@ -21,12 +21,12 @@ pub enum By {
     Request05,
 }
 
-/// The requests that part product and quinn, and of which inputs.
+/// The requests that part product and quinn, and the inputs on which quinn is not asked.
 pub const REQUESTS: [(u8, &str); 2] =
     [(2, "extensions that repeat grease_quic_bit or min_ack_delay"), (5, "resumption from a datagram size of 0 to an absent one")];
 
 impl By {
-    /// The request that parts product and quinn here; 0 if none does.
+    /// The request that gives the answer here, quinn not being asked; 0 if none does.
     pub fn request(self) -> u8 {
         match self {
             By::Quinn | By::Documents => 0,

@@ -9,7 +9,7 @@
 //! | 1 | refusal due, or 0 |
 //! | 2, 4, 6, 8, 10 | where x, y, z, w and the bytes due end, counted from the head's end |
 //! | 12 | length of the output |
-//! | 14 | the request of document 02 that gives the answer, quinn having another; else 0 |
+//! | 14 | the request of document 02 that gives the answer, quinn not being asked; else 0 |
 //! | 15 | the refusal again if the Rust has no answer, else 0 |
 //! | 16 | number of the case (eight bytes) |
 //! | 24 | number due (eight bytes) |

@@ -272,7 +272,7 @@ impl TransportParameters {
     /// assert_eq!(remembered.validate_resumption_from(&fresh), Ok(()));
     /// ```
     ///
-    /// An absent max_datagram_frame_size counts as 0, its default (RFC 9221 section 3), where quinn refuses it. The two records differ all the same:
+    /// An absent max_datagram_frame_size counts as 0, its default (RFC 9221 section 3), where quinn has it below 0. The two records differ all the same:
     ///
     /// ```
     /// # use yuthpram::TransportParameters;

@@ -1,25 +1,17 @@
-// Says what a refusal means and what is at fault: of an extension which parameter, at which byte it starts, and why; of an order which entry; of
-// a record that is resumed to which limits.
+// Says what a refusal means and what is at fault: of an extension which parameter, at which byte it starts, and why; of an order which entry.
 ghost use Prim.Native.Nat.{_≤_};
 ghost use lib.ListN.{length};
 use catalogue::ACK_DELAY_EXPONENT;
 use catalogue::ACTIVE_CONNECTION_ID_LIMIT;
 use catalogue::DISABLE_ACTIVE_MIGRATION;
 use catalogue::GREASE_QUIC_BIT;
-use catalogue::IDS;
-use catalogue::INITIAL_MAX_DATA;
-use catalogue::INITIAL_MAX_STREAM_DATA_BIDI_LOCAL;
-use catalogue::INITIAL_MAX_STREAM_DATA_BIDI_REMOTE;
-use catalogue::INITIAL_MAX_STREAM_DATA_UNI;
 use catalogue::INITIAL_MAX_STREAMS_BIDI;
 use catalogue::INITIAL_MAX_STREAMS_UNI;
 use catalogue::INITIAL_SRC_CID;
 use catalogue::MAX_ACK_DELAY;
-use catalogue::MAX_DATAGRAM_FRAME_SIZE;
 use catalogue::MAX_UDP_PAYLOAD_SIZE;
 use catalogue::MIN_ACK_DELAY;
 use catalogue::NAMES;
-use catalogue::NUMBERS;
 use catalogue::ORIGINAL_DST_CID;
 use catalogue::PLACES;
 use catalogue::PREFERRED_ADDRESS;
@@ -34,15 +26,11 @@ use marks::with_mark;
 use order::OrderFault;
 use refusal::Refusal;
 use rules::Side;
-use show::rows::flag_at;
-use show::rows::value_at;
-use text::byte;
 use text::out::note;
 use text::out::note_line;
 use text::out::note_number;
 use text::word;
 use value::Value;
-use words::big8;
 use words::size;
 use words::wide;
 
@@ -177,14 +165,6 @@ fn cause(side: Side, fault: Fault, place: usize) -> usize {
     }
 }
 
-// Which parameter it is.
-fn note_name(place: usize, id: u64) {
-    note(word(&NAMES, place, b' '));
-    note(b" (0x");
-    io::print_hex(STDERR_FILENO, id, 2);
-    note(b"): ");
-}
-
 // Which parameter it is, and what is wrong with it.
 fn note_cause(side: Side, c: Culprit) {
     let fault = c.fault;
@@ -204,7 +184,10 @@ under 2
 longer than max_ack_delay
 no address, or an empty connection ID
 a client may not send it";
-    note_name(place, id);
+    note(word(&NAMES, place, b' '));
+    note(b" (0x");
+    io::print_hex(STDERR_FILENO, id, 2);
+    note(b"): ");
     note_line(causes, cause(side, fault, place));
 }
 
@@ -249,70 +232,5 @@ pub fn note_order_fault(order: &[u8]) {
         note(b": out of range\n");
     } else {
         note(b": it repeats an earlier one\n");
-    }
-}
-
-// What is remembered for 0-RTT, by place.
-const REMEMBERED: [usize; 9] = [
-    INITIAL_MAX_DATA,
-    INITIAL_MAX_STREAM_DATA_BIDI_LOCAL,
-    INITIAL_MAX_STREAM_DATA_BIDI_REMOTE,
-    INITIAL_MAX_STREAM_DATA_UNI,
-    INITIAL_MAX_STREAMS_BIDI,
-    INITIAL_MAX_STREAMS_UNI,
-    ACTIVE_CONNECTION_ID_LIMIT,
-    MAX_DATAGRAM_FRAME_SIZE,
-    GREASE_QUIC_BIT,
-];
-
-// What the image of a record says of one of these, as a number. A size that is absent is 0 there.
-fn counted(place: usize, image: &[u8]) -> u64 {
-    if place == GREASE_QUIC_BIT {
-        return wide(byte(image, flag_at(place), 0));
-    }
-    let at = value_at(place);
-    if image.len() < at {
-        return 0;
-    }
-    big8(&image[at..])
-}
-
-// The same in words.
-fn note_counted(place: usize, image: &[u8]) {
-    if NUMBERS <= place && byte(image, flag_at(place), 0) == 0 {
-        note(b"absent");
-        return;
-    }
-    if place == GREASE_QUIC_BIT {
-        note(b"set");
-        return;
-    }
-    note_number(counted(place, image));
-}
-
-// A limit that a record reduces: what it was, and what it is.
-fn note_limit(place: usize, new: &[u8], cached: &[u8]) {
-    let ids = IDS;
-    if PLACES <= place {
-        return;
-    }
-    note_name(place, ids[place]);
-    note(b"was ");
-    note_counted(place, cached);
-    note(b", now ");
-    note_counted(place, new);
-    note(b"\n");
-}
-
-// The limits that a record reduces, by its image and that of the remembered one.
-pub fn note_reduced(new: &[u8], cached: &[u8]) {
-    let places = REMEMBERED;
-    let mut i: usize = 0;
-    while i < 9 {
-        let place = places[i];
-        if counted(place, new) < counted(place, cached) {
-            note_limit(place, new, cached);
-        }
-        i += 1;
     }
 }

@@ -1,4 +1,4 @@
--- Records: well formed; what else a preferred address must be; without order and reserved parameter.
+-- Records: well formed; what else a preferred address must be; with a part replaced, and so without order and reserved parameter.
 use Prim.Native.Nat.{ℕ, _*_, _%_, _^_}
 use mathlib.Core.List.{List, [], _∷_}
 use mathlib.Core.Bool.{Bool, true, false, _&&_, _||_, not}

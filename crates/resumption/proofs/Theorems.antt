@@ -118,6 +118,10 @@ absent-as-zero =
     record {
       asNew = λ new cached. refl;
       asCached = λ new cached. refl;
+      onlyFromZero = λ new cached x h.
+          let r = resumed (sized Absent new) (sized (Present x) cached) h in
+          let k = kept-facts (sized Absent new) (sized (Present x) cached) (r .kept) in
+          omega (arith, leb-true x 0 (k .size));
       apart = λ r s e.
           let size : Absent ≡ Present 0 = ap (λ (q : TransportParameters). q .«max_datagram_frame_size») e in
           let z : _≡_ {A = ℕ} 0 1 = cc in omega arith;

@@ -6,13 +6,13 @@ use catalogue::PLACES;
 use explain::note_culprit;
 use explain::note_order_fault;
 use explain::note_reading;
-use explain::note_reduced;
 use explain::note_refusal;
 use image::RECORD_SIZE;
 use libc::STDERR_FILENO;
 use libc::STDOUT_FILENO;
 use order::OrderFault;
 use record::TransportParameters;
+use reduced::note_reduced;
 use refusal::Answer;
 use refusal::Counted;
 use refusal::Refusal;
@@ -155,6 +155,8 @@ pub fn validate_resumption_from(text: &[u8], remembered: &[u8]) -> Status {
     refused(r);
     if let Refusal::LimitReduced = r {
         note_reduced(&record, &cached);
+    } else if let Counted::Refused(_) = by_image::length(&cached) {
+        note(b"it is the remembered one\n");
     }
     Status::Refused
 }

@@ -15,7 +15,7 @@ fn usage(fd: i32) {
   yuthpram length [FILE]               tell how long it will be, in every order
   yuthpram order_fault [PLACE ..]      tell whether an order is a permutation of 0 to 20, and if not, its first fault
   yuthpram validate_resumption_from CACHED [FILE]
-                                       tell whether a record may be resumed to from the remembered one in CACHED, both in text form
+                                       tell whether a record may be resumed to from the remembered one in CACHED, and if not, what is reduced
   yuthpram number HEX                  decode a number: its value and how many bytes it takes
   yuthpram number --write DECIMAL      encode a number in its shortest form
 ",

@@ -1,8 +1,8 @@
 -- `note_reduced` is safe and ends. Assumes nothing.
 use Prim.Native.Nat.{_≤_, _-_}
 use borrow.Author.Needs.{needs}
-use Rattle.explain.proofs.note_reduced.Statement.{statement}
-use Rattle.explain.proofs.note_reduced.Tie as tie
+use Rattle.reduced.proofs.note_reduced.Statement.{statement}
+use Rattle.reduced.proofs.note_reduced.Tie as tie
 
 abbrev Inv-loop : tie.InvT-loop
 Inv-loop new cached places i₀ i = i ≤ 9
