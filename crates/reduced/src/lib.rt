@@ -47,7 +47,7 @@ fn counted(place: usize, image: &[u8]) -> u64 {
 fn note_counted(place: usize, image: &[u8]) {
     let n = counted(place, image);
     if place == GREASE_QUIC_BIT {
-        note(word(b"not set,set", n as usize, b','));
+        note(word(b"not set\nset", n as usize, b'\n'));
         return;
     }
     if place == MAX_DATAGRAM_FRAME_SIZE && byte(image, flag_at(place), 0) == 0 {
