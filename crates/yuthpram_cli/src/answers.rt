@@ -137,28 +137,26 @@ pub fn length(text: &[u8]) -> Status {
     }
 }
 
-// Tells whether a record may be resumed to from a remembered one, both in text form, and if not, which limits it reduces.
-pub fn validate_resumption_from(text: &[u8], remembered: &[u8]) -> Status {
-    let mut record = [0u8; RECORD_SIZE];
-    let mut cached = [0u8; RECORD_SIZE];
-    if !form::fill(remembered, &mut cached) {
-        note(b"yuthpram: in the remembered record\n");
-        return Status::Misused;
-    }
-    if !form::fill(text, &mut record) {
-        return Status::Misused;
-    }
-    let Answer::Refused(r) = by_image::validate_resumption_from(&record, &cached) else {
-        say(b"accepted\n");
-        return Status::Answered;
-    };
-    refused(r);
+// What is wrong with a record that is resumed to, or with the remembered one.
+fn unresumed(r: Refusal, record: &[u8], cached: &[u8]) -> Status {
+    note_refusal(r);
     if let Refusal::LimitReduced = r {
-        note_reduced(&record, &cached);
-    } else if let Counted::Refused(_) = by_image::length(&cached) {
+        note_reduced(record, cached);
+    } else if let Counted::Refused(_) = by_image::length(cached) {
         note(b"it is the remembered one\n");
     }
     Status::Refused
+}
+
+// Tells whether a record may be resumed to from a remembered one, by the images of both, and if not, which limits it reduces.
+pub fn validate_resumption_from(record: &[u8], cached: &[u8]) -> Status {
+    match by_image::validate_resumption_from(record, cached) {
+        Answer::Accepted => {
+            say(b"accepted\n");
+            Status::Answered
+        }
+        Answer::Refused(r) => unresumed(r, record, cached),
+    }
 }
 
 // Which rule a record breaks: that which its extension breaks, or that no family that is given is all zero.

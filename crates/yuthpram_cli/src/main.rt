@@ -3,6 +3,7 @@ mod answers;
 mod help;
 mod input;
 
+use image::RECORD_SIZE;
 use input::Input;
 use input::SideWord;
 use input::choice;
@@ -10,6 +11,7 @@ use input::first;
 use input::is_followed;
 use text::DecimalText;
 use text::out::STATUS_FILENO;
+use text::out::note;
 
 // How a command ends. The wrapper makes its exit status of this.
 pub enum Status {
@@ -56,19 +58,37 @@ fn order_fault_command() -> Status {
     answers::order_fault(first(n, &order))
 }
 
+// Stores the image of the record whose text form is in the file that argument `i` names, or in standard input; tells whether it is understood.
+fn record_at(i: usize, record: &mut [u8]) -> bool {
+    let mut src = io::large_buffer();
+    match input::file_at(i, &mut src) {
+        Input::Bytes(n) => form::fill(first(n, &src), record),
+        Input::Bad => false,
+    }
+}
+
+// Resumption from a remembered record, by its image.
+fn resume_from(cached: &[u8]) -> Status {
+    let mut record = [0u8; RECORD_SIZE];
+    if record_at(3, &mut record) {
+        return answers::validate_resumption_from(&record, cached);
+    }
+    Status::Misused
+}
+
 fn validate_resumption_from_command() -> Status {
+    let mut cached = [0u8; RECORD_SIZE];
     if os::arg_count() < 3 {
         return help::misused(b"yuthpram: no file of the remembered record\n");
     }
-    let mut cached = io::large_buffer();
-    let Input::Bytes(m) = input::file_at(2, &mut cached) else {
-        return Status::Misused;
-    };
-    let mut src = io::large_buffer();
-    let Input::Bytes(n) = input::input_at(3, true, &mut src) else {
-        return Status::Misused;
-    };
-    answers::validate_resumption_from(first(n, &src), first(m, &cached))
+    if is_followed(3) {
+        return help::note_surplus();
+    }
+    if record_at(2, &mut cached) {
+        return resume_from(&cached);
+    }
+    note(b"yuthpram: that was the remembered record\n");
+    Status::Misused
 }
 
 // Where the words of a command's input start: behind its side, if it names one, and behind --record.
