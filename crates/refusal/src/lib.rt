@@ -1,4 +1,6 @@
 // The refusals of every operation, under the names of the Rust source where it has one, and their numbers; and the answers that carry them.
+#![tactic(auto)]
+
 ghost use Rattle.std.specs.Prelude.{◌≡◌};
 ghost use Rattle.refusal.specs.Number.{number_of};
 

@@ -1,4 +1,6 @@
 // Variable-length integers (RFC 9000 section 16): `VarInt` of quinn's varint.rs.
+#![tactic(auto)]
+
 ghost use Rattle.std.specs.Prelude.{◌≡◌, ◌/◌, ◌^◌, ◌<◌, ◌≤◌, length, get_or};
 ghost use Rattle.refusal.specs.Outcome.{accepted, front};
 ghost use Rattle.words.specs.Words.{bytes_of};

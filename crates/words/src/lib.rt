@@ -1,4 +1,6 @@
 // Small functions that several crates use: both and either of two tests, the smaller of two numbers, bytes as words, and tests for zeros.
+#![tactic(auto)]
+
 ghost use Rattle.std.specs.Prelude.{◌≡◌, [], ◌∷◌, ◌&&◌, ◌||◌, ◌+◌, ◌*◌, ◌/◌, ◌%◌, ◌^◌, ◌≤◌, ◌<◌, min, eqb, leb, length, take, drop};
 ghost use Rattle.refusal.specs.Outcome.{pick};
 ghost use Rattle.words.specs.Words.{zeros, same_bytes, Word, WordsOf20, elements, value_from, bytes_of, word_of, copied};

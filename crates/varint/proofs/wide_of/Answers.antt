@@ -1,0 +1,15 @@
+-- `varint::wide_of` meets its contract: the tag says how many bits count. Assumes nothing.
+use Prim.Native.Nat.{◌/◌, ◌^◌}
+use native.Mathlib.Omega.{arith}
+use borrow.Author.Rules.{rules}
+use Rattle.varint.proofs.Word.{bits_range, read_word}
+use Rattle.varint.proofs.wide_of.Goals as goal
+
+pub overflow_sub-result : goal.overflow_sub-result
+overflow_sub-result c = (bits_range (c.args.word / 2 ^ 62) (omega arith)).1
+
+pub overflow_shr-result : goal.overflow_shr-result
+overflow_shr-result c = omega (arith, bits_range (c.args.word / 2 ^ 62) (omega arith))
+
+pub returns : goal.returns
+returns c = (read_word c.args.word (omega arith), (bits_range (c.args.word / 2 ^ 62) (omega arith)).2)
