@@ -11,19 +11,17 @@ pub returns-then-x : goal.returns-then-x
 unfolding write_number
 returns-then-x c = simp (le-ltb _ _ c.if-x.true)
 
--- LEFT path type_size
 pub returns-then-out-size_of : goal.returns-then-out-size_of
 unfolding write_number store
 returns-then-out-size_of c =
     let v : c.args.self.0 < 2 ^ 62 = omega arith in
-    let h = rw c.type_size.ensures at c.if-out-size_of.true in
+    let h = rw c.size_of.ensures at c.if-out-size_of.true in
     simp (lt-ltb _ _ v, lt-leb _ _ h)
 
--- LEFT path type_size
 pub returns : goal.returns
 unfolding write_number store
 returns c =
     let v : c.args.self.0 < 2 ^ 62 = omega arith in
-    let h = rw c.type_size.ensures at c.if-out-size_of.false in
+    let h = rw c.size_of.ensures at c.if-out-size_of.false in
     let p = c.put.ensures in
     simp (lt-ltb _ _ v, le-leb _ _ h, p.0, p.1)

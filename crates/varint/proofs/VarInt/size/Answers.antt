@@ -10,9 +10,8 @@ pub returns-then-x : goal.returns-then-x
 unfolding size_number
 returns-then-x c = simp (le-ltb _ _ c.if-x.true)
 
--- LEFT path type_size
 pub returns : goal.returns
 unfolding size_number
 returns c =
     let v : c.args.self.0 < 2 ^ 62 = omega arith in
-    simp (lt-ltb _ _ v, c.type_size.ensures)
+    simp (lt-ltb _ _ v, c.size_of.ensures)
