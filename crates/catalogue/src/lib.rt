@@ -1,5 +1,7 @@
 // The catalogue of transport parameters, in the order of quinn's `SUPPORTED`: by place, their names, identifiers and defaults; and the place of an
 // identifier.
+#![tactic(auto)]
+
 ghost use Rattle.std.specs.Prelude.{◌≡◌};
 ghost use Rattle.catalogue.specs.Catalogue.{ids, defaults, place_of};
 

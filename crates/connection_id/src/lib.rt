@@ -1,4 +1,6 @@
 // Connection IDs, and their form behind a length byte (RFC 9000 section 17.2): `ConnectionId` of quinn's shared.rs.
+#![tactic(auto)]
+
 ghost use Rattle.std.specs.Prelude.{◌≡◌, [], ◌+◌, ◌≤◌, ◌<◌, length, drop};
 ghost use Rattle.std.proofs.Math.Seq.{paste};
 ghost use Rattle.words.specs.Words.{zeros};
@@ -9,7 +11,7 @@ ghost use Rattle.refusal.specs.Answer.{count_outcome};
 use refusal::{Counted, Refusal};
 use words::{and, same20, zero20_from};
 
-#[derive(Drop)]
+#[derive(Clone, Copy)]
 pub struct ConnectionId {
     // how many bytes the ID has
     pub len: u8,

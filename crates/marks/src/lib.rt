@@ -1,4 +1,6 @@
 // Marks of places already met: bit k of the mask is place k's.
+#![tactic(auto)]
+
 ghost use Rattle.std.specs.Prelude.{◌≡◌, ltb};
 ghost use Rattle.refusal.specs.Outcome.{pick};
 ghost use Rattle.marks.specs.Mark.{marked, mark};

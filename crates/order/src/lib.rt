@@ -1,4 +1,6 @@
 // Orders of the places: what is wrong with one, and whether it is a permutation of them.
+#![tactic(auto)]
+
 ghost use Rattle.std.specs.Prelude.{◌≡◌};
 ghost use Rattle.order.specs.Order.{permutation, order_fault};
 ghost use Rattle.order.specs.Answer.{fault_position};
