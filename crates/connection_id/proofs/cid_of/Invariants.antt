@@ -1,0 +1,16 @@
+-- `connection_id::cid_of` meets its contract. The invariant: the first `i` bytes stand over zeros. Assumes nothing.
+use Prim.Native.Nat.{ℕ, ◌≤◌, ◌-◌}
+use native.Mathlib.Omega.{arith}
+use mathlib.Core.Path.{◌≡◌, ap}
+use mathlib.Core.List.{List}
+use lib.ListN.{length, replicate}
+use lib.Seq.{paste, paste-zero}
+use Rattle.connection_id.specs.ConnectionId.{cid_of}
+use Rattle.connection_id.proofs.Copy.{copied, copied_all}
+use Rattle.connection_id.proofs.cid_of.Given as goal
+
+abbrev pub invariant-loop-i : goal.invariant-loop-i
+invariant-loop-i l = (l.i ≤ length l.v) × (l.bytes ≡ paste (replicate 20 0) 0 l.v l.i)
+
+abbrev pub decreases-loop-i : goal.decreases-loop-i
+decreases-loop-i l = length l.v - l.i
