@@ -1,4 +1,6 @@
 // The record of transport parameters: quinn's `TransportParameters` and what it holds; whether a record is well formed.
+#![tactic(auto)]
+
 ghost use Rattle.std.specs.Prelude.{◌≡◌, ◌&&◌, ◌%◌, length, drop, ltb, eqb};
 ghost use Rattle.refusal.specs.Outcome.{pick};
 ghost use Rattle.words.specs.Words.{every, zeros};
@@ -15,45 +17,45 @@ use varint::VarInt;
 use words::{all_zero, and, or, zero4, zero16_from, zero20_from};
 
 // A number that may be missing: 0 is not the same as absent.
-#[derive(Drop)]
+#[derive(Clone, Copy)]
 pub enum OptionalNumber {
     Absent,
     Present(u64),
 }
 
 // What may be missing is marked by `present`, and all zero where it is absent.
-#[derive(Drop)]
+#[derive(Clone, Copy)]
 pub struct OptionalConnectionId {
     pub present: bool,
     pub cid: ConnectionId,
 }
 
-#[derive(Drop)]
+#[derive(Clone, Copy)]
 pub struct ResetToken {
     pub bytes: [u8; 16],
 }
 
-#[derive(Drop)]
+#[derive(Clone, Copy)]
 pub struct OptionalResetToken {
     pub present: bool,
     pub token: ResetToken,
 }
 
-#[derive(Drop)]
+#[derive(Clone, Copy)]
 pub struct SocketAddrV4 {
     pub present: bool,
     pub ip: [u8; 4],
     pub port: u16,
 }
 
-#[derive(Drop)]
+#[derive(Clone, Copy)]
 pub struct SocketAddrV6 {
     pub present: bool,
     pub ip: [u8; 16],
     pub port: u16,
 }
 
-#[derive(Drop)]
+#[derive(Clone, Copy)]
 pub struct PreferredAddress {
     pub present: bool,
     pub address_v4: SocketAddrV4,
@@ -63,7 +65,7 @@ pub struct PreferredAddress {
 }
 
 // The reserved parameter that is sent so that peers go on skipping unknown ones.
-#[derive(Drop)]
+#[derive(Clone, Copy)]
 pub struct ReservedTransportParameter {
     pub present: bool,
     pub id: u64,
@@ -72,13 +74,13 @@ pub struct ReservedTransportParameter {
 }
 
 // The order in which the places are written; where it is absent, catalogue order.
-#[derive(Drop)]
+#[derive(Clone, Copy)]
 pub struct WriteOrder {
     pub present: bool,
     pub places: [u8; PLACES],
 }
 
-#[derive(Drop)]
+#[derive(Clone, Copy)]
 pub struct TransportParameters {
     // places 0 to 10 of the catalogue
     pub numbers: [u64; NUMBERS],
