@@ -1,0 +1,10 @@
+-- `record::formed_cid` meets its contract. Assumes nothing.
+use Rattle.record.specs.Record.{formed_optional_cid}
+use Rattle.words.proofs.Laws.{and-true}
+use Rattle.refusal.specs.Outcome.{all}
+use borrow.Author.Rules.{rules}
+use Rattle.record.proofs.formed_cid.Goals as goal
+
+pub returns : goal.returns
+unfolding formed_optional_cid all
+returns c = simp and-true (cc)

@@ -1,0 +1,14 @@
+-- `record::formed_v4` meets its contract. Assumes nothing.
+use borrow.Author.Rules.{rules}
+use Rattle.refusal.specs.Outcome.{all}
+use Rattle.words.proofs.Laws.{and-true, whole_array}
+use Prim.Native.Nat.{◌<◌}
+use borrow.Author.Tests.{lt-ltb}
+use Rattle.record.specs.Record.{formed_family}
+use Rattle.record.proofs.formed_v4.Goals as goal
+
+pub returns : goal.returns
+unfolding formed_family all
+returns c =
+    let known : c.args.port < 65536 = search rules in
+    simp (c.or.ensures, c.and.ensures, c.zero4.ensures, whole_array 4 c.args.ip.now c.requires, c.requires, lt-ltb _ _ (known), and-true)
