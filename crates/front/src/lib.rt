@@ -1,4 +1,6 @@
 // The parameter at the front of some bytes: identifier, length and value (RFC 9000 section 18); and what can be wrong with a parameter.
+#![tactic(auto)]
+
 ghost use Rattle.std.specs.Prelude.{◌≡◌, ◌≤◌, length};
 ghost use Rattle.front.specs.Parameter.{located};
 ghost use Rattle.front.specs.Answer.{refused_with, parameter_outcome};
