@@ -1,4 +1,6 @@
 // The value rules (RFC 9000 sections 4.6 and 18.2, draft-ietf-quic-ack-frequency-08 section 3), and checking a record for the side that reads it.
+#![tactic(auto)]
+
 ghost use Rattle.std.specs.Prelude.{◌≡◌, ◌*◌, leb};
 ghost use Rattle.refusal.specs.Answer.{verdict_outcome};
 ghost use Rattle.record.specs.Record.{family_rules};

@@ -1,4 +1,6 @@
 // A value received for a place of the catalogue: whether it is a second copy, whether it fits its kind, and what is kept of it.
+#![tactic(auto)]
+
 ghost use Rattle.std.specs.Prelude.{◌≡◌, true, ◌≤◌, ◌<◌, length, take};
 ghost use Rattle.refusal.specs.Outcome.{pick};
 ghost use Rattle.catalogue.specs.Catalogue.{number, address, kind_at};
