@@ -1,5 +1,7 @@
 // Going through an extension for a side: which places it names, the numbers that it holds, and where its other values stand. Reading makes the
 // record of this, and tidying the shortest form.
+#![tactic(auto)]
+
 ghost use Rattle.std.specs.Prelude.{◌≡◌, true, ◌+◌, ◌<◌, length, get_or, replicate};
 ghost use Rattle.words.specs.Words.{elements};
 ghost use Rattle.catalogue.specs.Catalogue.{places};

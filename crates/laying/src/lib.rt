@@ -1,5 +1,7 @@
 // Parameters laid at the front of a buffer with room to spare: others that do not count are stored behind each, as zeros where the buffer is zeros.
 // So a number is stored without a branch on its width, and a field whole. Each gives the parameter's byte count, or stores nothing and gives 0.
+#![tactic(auto)]
+
 ghost use Rattle.std.specs.Prelude.{◌≡◌, true, ◌&&◌, ◌++◌, ◌-◌, ◌*◌, ◌^◌, ◌<◌, ◌≤◌, length, replicate, leb, ltb};
 ghost use Rattle.refusal.specs.Outcome.{pick, front};
 ghost use Rattle.words.specs.Words.{bytes_of};

@@ -3,15 +3,8 @@ use mathlib.Core.Path.{refl}
 use Rattle.catalogue.specs.Catalogue.{defaults}
 use Rattle.index.specs.Index.{initial_kept}
 use borrow.Author.Rules.{rules}
-use Rattle.index.proofs.refuse.Statement.{statement}
-use Rattle.index.proofs.refuse.Tie as tie
+use Rattle.index.proofs.refuse.Goals as goal
 
-returns : tie.Need-returns
+pub returns : goal.returns
 unfolding initial_kept defaults
 returns c = refl
-
-pub refuse_spec : {M : Type 1} → statement M
-refuse_spec =
-    tie.close
-    (tie.spec
-    returns)

@@ -1,0 +1,11 @@
+-- `laying::from` meets its contract. Assumes nothing.
+use borrow.Author.Tests.{lt-ltb, le-ltb}
+use mathlib.Core.Path.{sym}
+use borrow.Author.Rules.{rules}
+use Rattle.laying.proofs.from.Goals as goal
+
+pub returns-then-x-limit : goal.returns-then-x-limit
+returns-then-x-limit c = rw (lt-ltb _ _ c.if-x-limit.true)
+
+pub returns-else-x-limit : goal.returns-else-x-limit
+returns-else-x-limit c = rw (le-ltb _ _ c.if-x-limit.false)

@@ -1,0 +1,19 @@
+-- `laying::put_wide` meets its contract. Assumes nothing.
+use native.Mathlib.Omega.{arith}
+use Rattle.words.proofs.Copied.{copied_whole}
+use Rattle.varint.proofs.Bytes.{tag_le, tag_room}
+use Rattle.laying.proofs.Wide.{wide_stored}
+use mathlib.Core.Path.{refl, ◌∙◌}
+use borrow.Author.Rules.{rules}
+use Rattle.laying.proofs.put_wide.Goals as goal
+
+pub wide_form-requires : goal.wide_form-requires
+wide_form-requires c = rw c.tag_of-tag.ensures (tag_le c.args.x, tag_room c.args.x c.requires.0)
+
+pub overflow_shl-result : goal.overflow_shl-result
+overflow_shl-result c = omega (arith, c.tag_of-tag.ensures, tag_le c.args.x)
+
+pub returns : goal.returns
+returns c =
+    let o = c.args.out.now in
+    wide_stored c.args.x _ _ _ o _ c.tag_of-tag.ensures refl c.wide_form.ensures (c.put_word.ensures ∙ copied_whole _ o c.requires.1)
