@@ -1,4 +1,6 @@
 // The preferred address as a parameter on the wire (RFC 9000 section 18.2).
+#![tactic(auto)]
+
 ghost use Rattle.std.specs.Prelude.{◌≡◌, ◌∷◌, ◌++◌, true, ◌&&◌, ◌+◌, ◌≤◌, length};
 ghost use Rattle.refusal.specs.Outcome.{front};
 ghost use Rattle.words.specs.Words.{bytes_of};
