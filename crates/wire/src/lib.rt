@@ -1,5 +1,7 @@
 // Parameters on the wire: one writer for each kind of value, for writing and for tidying. Each stores all of its parameter at the front of `out`
 // and gives its byte count, or stores nothing and gives 0: if it is not due, if there is no room, or if the wire form has no such number.
+#![tactic(auto)]
+
 ghost use Rattle.std.specs.Prelude.{◌≡◌, true, ◌<◌, ◌≤◌, length, take};
 ghost use Rattle.catalogue.specs.Catalogue.{parameter};
 ghost use Rattle.wire.specs.Wire.{put, head_of, due_value, due_number};
