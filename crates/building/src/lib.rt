@@ -24,7 +24,7 @@ use varint::VarInt;
 use words::{and, minimum};
 
 // What `new` takes from the configurations of the transport, the endpoint and the server, and from the generator of connection IDs.
-#[derive(Drop)]
+#[derive(Clone, Copy)]
 pub struct Settings {
     pub max_concurrent_bidi_streams: u64,
     pub max_concurrent_uni_streams: u64,
@@ -43,7 +43,7 @@ pub struct Settings {
 }
 
 // The answer, and the record: the default one if refused.
-#[derive(Drop)]
+#[derive(Clone, Copy)]
 pub struct Built {
     pub answer: Answer,
     pub parameters: TransportParameters,

@@ -20,7 +20,7 @@ pub struct ConnectionId {
 }
 
 // The answer of reading, and the ID: the empty one if refused.
-#[derive(Drop)]
+#[derive(Clone, Copy)]
 pub struct DecodedCid {
     pub answer: Counted,
     pub cid: ConnectionId,

@@ -9,7 +9,7 @@ use refusal::Refusal;
 use varint::{Decoded, VarInt};
 
 // What can be wrong with a parameter.
-#[derive(Drop)]
+#[derive(Clone, Copy)]
 pub enum Fault {
     // an identifier or length that cannot be read, or a length beyond what is left
     Cut,
@@ -36,7 +36,7 @@ impl Fault {
 }
 
 // The parameter at a position: its identifier, and where its value starts and ends; or none that is whole.
-#[derive(Drop)]
+#[derive(Clone, Copy)]
 pub enum Parameter {
     Whole(u64, usize, usize),
     Broken,

@@ -20,7 +20,7 @@ use value::Value;
 use words::low;
 
 // What was found in an extension: the marks of the places met, or what is wrong.
-#[derive(Drop)]
+#[derive(Clone, Copy)]
 pub enum Scanned {
     Marks(u32),
     Stopped(Fault),
@@ -28,7 +28,7 @@ pub enum Scanned {
 
 // What is kept of an extension, by place: the number, or where the value starts; and the value's length. Without a value a number is the default,
 // and everything else 0; so it all is if the extension is refused.
-#[derive(Drop)]
+#[derive(Clone, Copy)]
 pub struct Entries {
     pub found: Scanned,
     pub kept: [u64; PLACES],

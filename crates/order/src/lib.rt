@@ -10,7 +10,7 @@ use marks::{is_marked, with_mark};
 use words::size;
 
 // What is wrong with an order.
-#[derive(Drop)]
+#[derive(Clone, Copy)]
 pub enum OrderFault {
     // the position, from 0, of the first entry that is no place or repeats an earlier one; the length if entries are only missing
     At(usize),

@@ -30,7 +30,7 @@ use Rattle.reader.proofs.Run.{parse_nil, parse_front, upd_here, upd_there}
 
 pub record Agrees (s : List ℕ) (f : Found) (l : Values) : Type 0 where
   pub met : (p : ℕ) → is_some (l p) ≡ marked f.0 p
-  pub number_at_lem : (p : ℕ) → kind_at p ≡ number → get_or f.1 p 0 ≡ number_in (get_or defaults p 0) (l p)
+  pub number_at : (p : ℕ) → kind_at p ≡ number → get_or f.1 p 0 ≡ number_in (get_or defaults p 0) (l p)
   pub value_at : (p : ℕ) → (kind_at p ≡ number → ⊥) → l p ≡ value_at s f p
 
 start_agrees : (s : List ℕ) → Agrees s nothing no_values
@@ -38,7 +38,7 @@ unfolding nothing no_values number_in value_at
 start_agrees s =
     record {
       met = λ p. rw (unmarked p);
-      number_at_lem = λ p k. initial_at p;
+      number_at = λ p k. initial_at p;
       value_at = λ p n. rw (unmarked p);
     }
 
@@ -58,7 +58,7 @@ module _ (s : List ℕ) (a e : ℕ) (ae : a ≤ e) (el : e ≤ length s) (f : Fo
   pub keep_agrees : Agrees s (keep f p x (length (between s a e))) (upd l p (some (between s a e)))
   unfolding keep value_at
   keep_agrees =
-      record { met = λ q. met_at q (eqb q p) refl; number_at_lem = λ q k. number_there q k (eqb q p) refl; value_at = λ q n. value_there q n (eqb q p) refl }
+      record { met = λ q. met_at q (eqb q p) refl; number_at = λ q k. number_there q k (eqb q p) refl; value_at = λ q n. value_there q n (eqb q p) refl }
     where
       met_at : (q : ℕ) (c : Bool) → eqb q p ≡ c → is_some (upd l p (some (between s a e)) q) ≡ marked (mark f.0 p) q
       met_at q true d = rw (eqb-true q p d, upd_here l p (some (between s a e)), marked_same f.0 p)

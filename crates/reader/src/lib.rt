@@ -1,4 +1,6 @@
 // Reading an extension: `TransportParameters::read` of quinn's transport_parameters.rs. The record is built once, of what the index kept.
+#![tactic(auto)]
+
 ghost use Rattle.std.specs.Prelude.{◌≡◌, true, not, ◌+◌, ◌*◌, ◌<◌, ◌≤◌, length};
 ghost use Rattle.std.proofs.Math.Option.{none, some};
 ghost use Rattle.refusal.specs.Outcome.{pick};

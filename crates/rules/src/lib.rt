@@ -15,7 +15,7 @@ use refusal::{Answer, Refusal};
 use words::{and, or};
 
 // The side that reads an extension, or for which it is written: the other side is the one that speaks.
-#[derive(Drop)]
+#[derive(Clone, Copy)]
 pub enum Side {
     Client,
     Server,
@@ -24,10 +24,10 @@ pub enum Side {
 const MAX_STREAM_COUNT: u64 = 1 << 60;
 
 // The units of min_ack_delay and max_ack_delay.
-#[derive(Drop)]
+#[derive(Clone, Copy)]
 pub struct Microseconds(pub u64);
 
-#[derive(Drop)]
+#[derive(Clone, Copy)]
 pub struct Milliseconds(pub u64);
 
 impl Milliseconds {

@@ -18,7 +18,7 @@ use varint::{Decoded, VarInt};
 use words::{all_zero, and};
 
 // What is kept of a value: the number that it holds or, for another kind, where it starts; or what is wrong.
-#[derive(Drop)]
+#[derive(Clone, Copy)]
 pub enum Value {
     Fits(u64),
     Wrong(Fault),

@@ -11,25 +11,25 @@ ghost use Rattle.refusal.specs.Answer.{count_outcome};
 use refusal::{Counted, Refusal};
 use words::{big8, low, put_word, wide, word2, word4};
 
-#[derive(Drop)]
+#[derive(Clone, Copy)]
 pub struct VarInt(pub u64);
 
 // What a conversion gives.
-#[derive(Drop)]
+#[derive(Clone, Copy)]
 pub enum Converted {
     Number(VarInt),
     Refused(Refusal),
 }
 
 // What reading of eight bytes or more gives.
-#[derive(Drop)]
+#[derive(Clone, Copy)]
 pub struct Wide {
     pub value: u64,
     pub count: usize,
 }
 
 // What reading gives: the value and how many bytes it took.
-#[derive(Drop)]
+#[derive(Clone, Copy)]
 pub enum Decoded {
     Value(u64, usize),
     Refused(Refusal),

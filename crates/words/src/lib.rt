@@ -144,7 +144,7 @@ pub fn zero_from(u: u64, v: u64, w: u64, n: usize) -> bool
 }
 
 // 20 bytes as words.
-#[derive(Drop)]
+#[derive(Clone, Copy)]
 struct ThreeWords {
     u: u64,
     v: u64,

@@ -1,4 +1,6 @@
 // Writing an extension: `TransportParameters::write` of quinn's transport_parameters.rs.
+#![tactic(auto)]
+
 ghost use Rattle.std.specs.Prelude.{◌≡◌, [], ◌∷◌, ◌++◌, true, ◌+◌, ◌<◌, ◌≤◌, length, take, drop};
 ghost use Rattle.refusal.specs.Outcome.{pick, front, store};
 ghost use Rattle.refusal.specs.Answer.{count_outcome};

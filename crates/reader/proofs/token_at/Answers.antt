@@ -1,0 +1,20 @@
+-- `reader::token_at` meets its contract. Assumes nothing.
+use mathlib.Core.Path.{◌≡◌, refl, sym, ◌∙◌}
+use native.Mathlib.Omega.{arith}
+use borrow.Author.Tests.{eqb-true}
+use Rattle.catalogue.specs.Catalogue.{fits}
+use Rattle.reader.specs.Kept.{value_at}
+use Rattle.reader.proofs.Indexed.{lent}
+use borrow.Author.Rules.{rules}
+use Rattle.reader.proofs.token_at.Goals as goal
+
+pub overflow_add-end : goal.overflow_add-end
+overflow_add-end c = omega (arith, c.requires.within)
+
+pub token_in-requires : goal.token_in-requires
+unfolding fits
+token_in-requires c = λ h. rw (lent _ _ _) (eqb-true _ _ (c.requires.fit (sym c.is_marked.ensures ∙ h)))
+
+pub returns : goal.returns
+unfolding value_at
+returns c = c.token_in.ensures ∙ rw (lent _ _ c.args.src.now, c.is_marked.ensures)

@@ -1,0 +1,23 @@
+-- `writer::put_laid` meets its contract. Assumes nothing.
+use native.Mathlib.Omega.{arith}
+use mathlib.Core.Path.{sym}
+use lib.Seq.{length-take-le}
+use Rattle.wire.proofs.Stored.{stored_short}
+use Rattle.writer.proofs.Answers.{laid_count, laid_ordered, laid_plain}
+use borrow.Author.Rules.{rules}
+use Rattle.writer.proofs.put_laid.Goals as goal
+
+pub returns-then-out-n : goal.returns-then-out-n
+returns-then-out-n c = stored_short _ c.args.out.now (omega (arith, c.requires.count))
+
+pub put_ordered-requires : goal.put_ordered-requires
+put_ordered-requires c = let t = c.if-present.true in (c.requires.in_order t, laid_count _ _ _ _ c.args.out.now _ t c.requires, c.if-out-n.false)
+
+pub returns-then-present : goal.returns-then-present
+returns-then-present c = laid_ordered _ _ _ _ c.args.out.now _ _ _ _ c.if-present.true c.requires c.if-out-n.false c.put_ordered.ensures
+
+pub slice_bounds-put_bytes-end : goal.slice_bounds-put_bytes-end
+slice_bounds-put_bytes-end c = sym (length-take-le _ c.args.parts.now c.requires.within)
+
+pub returns : goal.returns
+returns c = laid_plain _ _ _ _ c.args.out.now _ _ _ c.if-present.false c.requires c.if-out-n.false c.put_bytes.ensures

@@ -1,0 +1,6 @@
+-- `writer::put_optional` meets its contract. Assumes nothing.
+use borrow.Author.Rules.{rules}
+use Rattle.writer.proofs.put_optional.Goals as goal
+
+pub returns : goal.returns
+returns c = rw (c.is_present.ensures, c.or_zero.ensures) at c.put_number.ensures
