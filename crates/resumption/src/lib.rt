@@ -1,5 +1,7 @@
 // Resumption from remembered parameters, and how many connection IDs to issue: `validate_resumption_from` and `issue_cids_limit` of
 // quinn's transport_parameters.rs.
+#![tactic(auto)]
+
 ghost use Rattle.std.specs.Prelude.{◌≡◌, length, leb};
 ghost use Rattle.resumption.specs.Resumption.{limits_kept, size_rank, nothing_reduced, resume, issue_limit};
 ghost use Rattle.refusal.specs.Answer.{verdict_outcome};

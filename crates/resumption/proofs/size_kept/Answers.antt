@@ -1,0 +1,15 @@
+-- `resumption::size_kept` meets its contract. Assumes nothing.
+use mathlib.Core.Path.{refl, ap}
+use mathlib.Core.Bool.{true≢false}
+use native.Mathlib.Omega.{arith}
+use Rattle.resumption.specs.Resumption.{size_rank}
+use Rattle.resumption.proofs.Laws.{told}
+use borrow.Author.Rules.{rules}
+use Rattle.resumption.proofs.size_kept.Goals as goal
+
+pub returns-in-Absent : goal.returns-in-Absent
+unfolding size_rank
+returns-in-Absent c = told _ _ _ _ _ (ap size_rank c.in-Absent.is) refl (λ h. omega arith) (λ h. omega (arith, true≢false))
+
+pub returns-in-Present : goal.returns-in-Present
+returns-in-Present c = rw c.in-Present.is c.at_least.ensures
