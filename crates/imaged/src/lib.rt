@@ -18,14 +18,14 @@ use wire::put_bytes;
 use words::{and, big8, or, word2};
 
 // The answer, and the record: the default one if refused.
-#[derive(Drop)]
+#[derive(Clone, Copy)]
 pub struct ImagedRecord {
     pub answer: Answer,
     pub parameters: TransportParameters,
 }
 
 // The answer, and the connection ID: the empty one if refused.
-#[derive(Drop)]
+#[derive(Clone, Copy)]
 pub struct ImagedCid {
     pub answer: Answer,
     pub cid: ConnectionId,

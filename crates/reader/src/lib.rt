@@ -31,7 +31,7 @@ use rules::Side;
 use words::all_zero;
 
 // The answer, and the record: the default one if refused.
-#[derive(Drop)]
+#[derive(Clone, Copy)]
 pub struct Reading {
     pub answer: Answer,
     pub parameters: TransportParameters,
