@@ -1,5 +1,7 @@
 // Tidying an extension: reading it for a side, and writing what was read in its one shortest form. The parameters are written straight from
 // where they were found; no record stands between.
+#![tactic(auto)]
+
 ghost use Rattle.std.specs.Prelude.{◌≡◌, [], ◌+◌, ◌≤◌, ◌<◌, length};
 ghost use Rattle.refusal.specs.Outcome.{store};
 ghost use Rattle.refusal.specs.Answer.{count_outcome};
