@@ -1,4 +1,6 @@
 // The images of records and connection IDs, in 303 and 21 bytes: the form in which the C interface passes them. Crate imaged reads them.
+#![tactic(auto)]
+
 ghost use Rattle.std.specs.Prelude.{◌≡◌, ◌∷◌, ◌+◌, ◌≤◌, length};
 ghost use Rattle.std.proofs.lemmas.List.Edits.{sets};
 ghost use Rattle.refusal.specs.Answer.{count_outcome};

@@ -1,0 +1,9 @@
+-- `image::put_optional` meets its contract. Assumes nothing.
+use mathlib.Core.Path.{◌∙◌}
+use Rattle.image.specs.Image.{eight_bytes}
+use borrow.Author.Rules.{rules}
+use Rattle.image.proofs.put_optional.Goals as goal
+
+pub returns : goal.returns
+unfolding eight_bytes
+returns c = c.put_behind.ensures ∙ rw (c.flag_byte.ensures, c.is_present.ensures, c.bytes8-bytes.ensures, c.or_zero.ensures)
