@@ -1,5 +1,7 @@
 // Building a record: `TransportParameters::new` and `ReservedTransportParameter::random` of quinn's transport_parameters.rs. What quinn
 // draws at random is handed in.
+#![tactic(auto)]
+
 ghost use Rattle.std.specs.Prelude.{◌≡◌, ◌&&◌, not, ◌-◌, ◌≤◌, ◌<◌, length};
 ghost use Rattle.refusal.specs.Outcome.{pick};
 ghost use Rattle.varint.specs.Number.{bound};
