@@ -1,4 +1,6 @@
 // The length of a record on the wire, before its order is drawn. Sizes are added up, field by field; nothing is written.
+#![tactic(auto)]
+
 ghost use Rattle.std.specs.Prelude.{◌≡◌, ◌≤◌, ◌<◌, length};
 ghost use Rattle.refusal.specs.Answer.{count_outcome};
 ghost use Rattle.catalogue.specs.Sum.{sum};

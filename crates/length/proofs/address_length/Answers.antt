@@ -1,0 +1,8 @@
+-- `length::address_length` meets its contract. Assumes nothing.
+use Rattle.catalogue.specs.Catalogue.{ids, id_at}
+use borrow.Author.Rules.{rules}
+use Rattle.length.proofs.address_length.Goals as goal
+
+pub returns : goal.returns
+unfolding id_at ids
+returns c = rw c.size.ensures at c.value_length.ensures
