@@ -1,4 +1,6 @@
 // The operations on a record by its image: what the C interface and the command-line tool call.
+#![tactic(auto)]
+
 ghost use Rattle.std.specs.Prelude.{◌≡◌};
 ghost use Rattle.refusal.specs.Answer.{count_outcome, verdict_outcome};
 ghost use Rattle.by_image.specs.ByImage.{image_read, image_check, image_write, image_length, resume_from, image_resume};

@@ -1,4 +1,6 @@
 // The records and connection IDs of images: reading what crate image stores.
+#![tactic(auto)]
+
 ghost use Rattle.std.specs.Prelude.{◌≡◌, [], ◌+◌, ◌≤◌, ◌<◌, length};
 ghost use Rattle.refusal.specs.Answer.{answer_outcome, settled_by};
 ghost use Rattle.connection_id.specs.ConnectionId.{cid_of};

@@ -1,0 +1,10 @@
+-- `imaged::bytes20_at` meets its contract. Assumes nothing.
+use native.Mathlib.Omega.{arith}
+use mathlib.Core.Path.{refl}
+use lib.ListN.{replicate}
+use Rattle.imaged.proofs.Places.{bytes_part}
+use borrow.Author.Rules.{rules}
+use Rattle.imaged.proofs.bytes20_at.Goals as goal
+
+pub returns : goal.returns
+returns c = bytes_part 20 c.args.at _ c.args.s.now (replicate 20 0) _ (omega arith) refl c.put_bytes.ensures
