@@ -1,5 +1,7 @@
 // The operations as another crate of Rattle calls them, exported for the benchmark (bench/): a record stays a record, where the C interface
 // makes its image. An answer is a count, or `REFUSED` and the number of the refusal.
+#![tactic(auto)]
+
 ghost use Rattle.std.specs.Prelude.{◌≡◌, get_or};
 ghost use Rattle.refusal.specs.Answer.{count_outcome, value_or};
 ghost use Rattle.record.specs.Record.{default_record};
