@@ -6,7 +6,7 @@
 --     reserved_unknown            a reserved identifier has no place
 --     unknown                     identifiers outside the table
 --     number_kind, default_lt     places 0 to 10 hold numbers, and their defaults are numbers
-use Prim.Native.Nat.{ℕ, zero, suc, ◌+◌, ◌^◌, ◌%◌, ◌≤◌, ◌<◌}
+use Prim.Native.Nat.{ℕ, zero, suc, ◌^◌, ◌%◌, ◌≤◌, ◌<◌}
 use mathlib.Core.Path.{◌≡◌, refl, ap, sym, ◌∙◌}
 use mathlib.Core.List.{List, [], ◌∷◌}
 use mathlib.Core.Bool.{Bool, true, false, ◌&&◌, not}

@@ -7,17 +7,16 @@
 --     cid_same          the bytes of the ID of some bytes are these
 --     cid_back          a written ID reads back, with any bytes behind it
 --     cid_sound         an accepted ID is well formed, its count within the input, and its bytes the only form of it
-use Prim.Native.Nat.{ℕ, zero, suc, ◌+◌, ◌-◌, ◌≤◌, ◌<◌}
+use Prim.Native.Nat.{ℕ, ◌+◌, ◌-◌, ◌≤◌}
 use mathlib.Core.Path.{◌≡◌, refl, ap, ap₂, sym, ◌∙◌}
 use mathlib.Core.List.{List, [], ◌∷◌, ◌++◌}
 use mathlib.Core.Bool.{Bool, true, false, ◌&&◌}
 use native.Mathlib.Omega.{arith}
 use native.Mathlib.Numerals.{add-one}
-use lib.ListN.{length, get_or, take, drop, replicate, length-append, length-replicate, length-drop, take-append-drop, drop_of_length-le}
-use lib.Seq.{length-take-le, take-append_seam, drop-append_seam, drop-cons, take_at}
-use lib.Bits.{bit_or, bit_and, or_add_and, and_le_l, and_le_r}
-use lib.Dec.{leb, eqb}
-use borrow.Author.Tests.{le-leb, leb-true, eq-eqb, ne_eqb, eqb-true, eqb-false}
+use lib.ListN.{length, take, drop, replicate, length-append, length-replicate, length-drop, take-append-drop}
+use lib.Seq.{length-take-le, take-append_seam, drop-append_seam, take_at}
+use lib.Dec.{leb}
+use borrow.Author.Tests.{le-leb, leb-true, eq-eqb, eqb-true}
 use Rattle.refusal.specs.Outcome.{accepted, all}
 use Rattle.refusal.proofs.Laws.{picked, all_at}
 use Rattle.words.specs.Words.{zeros}

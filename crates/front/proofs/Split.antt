@@ -17,7 +17,7 @@ use Rattle.words.specs.Words.{value_from}
 use Rattle.varint.proofs.Laws.{read_within}
 use Rattle.front.specs.Parameter.{read_parameter}
 use Rattle.front.specs.Whole.{Whole}
-use Rattle.front.proofs.Front.{Front, at_front, parts, front_append, shorter}
+use Rattle.front.proofs.Front.{at_front, parts, front_append, shorter}
 
 -- a number cut out, with other bytes behind it
 tail_cut : (w m x v : ℕ) (bs cs : List ℕ) → w ≡ suc m → m ≤ length bs → value_from x (take (w - 1) bs) ≡ v

@@ -2,7 +2,7 @@
 --     sound            of an extension that is indexed
 --     address_within   the length of an address's connection ID can be looked at
 use Prim.Native.Nat.{ℕ, zero, suc, ◌+◌, ◌-◌, ◌%◌, ◌≤◌, ◌<◌}
-use mathlib.Core.Path.{◌≡◌, refl, ap, sym, ◌∙◌, subst}
+use mathlib.Core.Path.{◌≡◌, refl, sym, ◌∙◌, subst}
 use mathlib.Core.List.{List, [], ◌∷◌, ◌++◌}
 use mathlib.Core.Bool.{Bool, true, false}
 use native.Mathlib.Omega.{arith}
@@ -10,11 +10,11 @@ use lib.ListN.{length, get_or, take, drop, set, replicate, length-set, length-dr
 use lib.Seq.{get_or-set_same, get_or-set_other, length-take-le}
 use lib.Dec.{eqb, ltb}
 use borrow.Author.Tests.{eqb-true, eqb-false, ltb-true, ltb-false, leb-true}
-use Rattle.refusal.specs.Outcome.{Result, accepted, refused, pick, and_then}
+use Rattle.refusal.specs.Outcome.{Result, accepted, pick, and_then}
 use Rattle.refusal.proofs.Laws.{inverted, picked, all_at}
 use Rattle.marks.specs.Mark.{marked, mark}
-use Rattle.marks.proofs.Laws.{marked_same, marked_other, unmarked}
-use Rattle.catalogue.specs.Catalogue.{Kind, number, flag, cid, token, address, reserved, places, place_of, kinds, other_kinds, kind_at, defaults, fits, id_length}
+use Rattle.marks.proofs.Laws.{marked_other, unmarked}
+use Rattle.catalogue.specs.Catalogue.{Kind, number, flag, cid, token, address, reserved, places, place_of, kinds, other_kinds, kind_at, defaults, fits}
 use Rattle.catalogue.proofs.Places.{number_kind}
 use Rattle.rules.specs.declared.Side.{Side}
 use Rattle.front.specs.declared.Fault.{Fault}

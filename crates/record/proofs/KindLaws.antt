@@ -27,7 +27,7 @@ use Rattle.record.specs.declared.OptionalNumber.{OptionalNumber}
 use Rattle.record.specs.declared.OptionalNumber.TheVariants.{Absent, Present}
 use Rattle.record.specs.declared.OptionalConnectionId.{OptionalConnectionId}
 use Rattle.record.specs.declared.OptionalResetToken.{OptionalResetToken}
-use Rattle.catalogue.specs.Catalogue.{Kind, number, flag, cid, token, address, reserved, fits, fills, illegal, parameter, parameter_if, widest}
+use Rattle.catalogue.specs.Catalogue.{Kind, number, flag, cid, token, fits, fills, illegal, parameter, parameter_if, widest}
 use Rattle.record.specs.Values.{Bytes, is_some, value, number_in, number_out, optional_in, optional_out, flag_out, cid_in, cid_out, token_of, token_in, token_out}
 use Rattle.record.specs.Record.{formed_optional, formed_optional_cid, formed_token, formed_optional_token}
 

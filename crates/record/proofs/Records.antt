@@ -5,23 +5,21 @@
 --     back                        they are read back
 --     formed, families            a record of values that fit is well formed, and its families as they should be
 --     short                       it is no longer when it is sent
-use Prim.Native.Nat.{ℕ, zero, suc, ◌+◌, ◌-◌, ◌^◌, ◌%◌, ◌≤◌, ◌<◌}
-use mathlib.Core.Path.{◌≡◌, refl, ap, sym, ◌∙◌, subst}
+use Prim.Native.Nat.{ℕ, zero, suc, ◌+◌, ◌-◌, ◌^◌, ◌≤◌, ◌<◌}
+use mathlib.Core.Path.{◌≡◌, refl, ap, sym, subst}
 use mathlib.Core.List.{List, [], ◌∷◌}
 use mathlib.Core.Option.{Option, none}
-use mathlib.Core.Bool.{Bool, true, false, ◌&&◌, not}
+use mathlib.Core.Bool.{Bool, true, false}
 use native.Mathlib.Omega.{arith}
-use lib.ListN.{length, get_or, replicate, get_or-eq_default, get_or-append, get_or-replicate}
+use lib.ListN.{length, get_or, get_or-eq_default}
 use lib.Seq.{ext_get_or}
 use lib.Dec.{ltb, eqb}
 use borrow.Author.Tests.{lt-ltb, le-ltb, ltb-true, ltb-false, ne_eqb, eqb-true, eqb-false}
 use Rattle.refusal.specs.Outcome.{pick, all}
 use Rattle.refusal.proofs.Laws.{all_at}
-use Rattle.varint.specs.Number.{bound}
 use Rattle.record.specs.declared.TransportParameters.{TransportParameters}
-use Rattle.catalogue.specs.Catalogue.{number, reserved, places, place_of, ids, id_at, kinds, other_kinds, kind_at, defaults, index_of, parameter_if}
+use Rattle.catalogue.specs.Catalogue.{number, places, id_at, kinds, kind_at, defaults, parameter_if}
 use Rattle.record.specs.Values.{Values, number_in, number_out, numbers_in, record_of, no_reserved, no_order, other_values, values_of}
-use Rattle.words.specs.Words.{every}
 use Rattle.record.specs.Record.{formed_reserved, formed_order, well_formed, family_rules, bare}
 use Rattle.words.proofs.Laws.{every_at, every_of}
 use Rattle.catalogue.proofs.Places.{number_kind, default_lt}

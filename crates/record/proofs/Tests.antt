@@ -1,5 +1,5 @@
 -- Laws of the tests that the code makes. Assumes nothing.
-use Prim.Native.Nat.{ℕ, suc, ◌+◌, ◌^◌, ◌≤◌, ◌<◌}
+use Prim.Native.Nat.{ℕ, suc, ◌+◌, ◌≤◌, ◌<◌}
 use mathlib.Core.Path.{◌≡◌, refl, ap, ap₂, sym, ◌∙◌}
 use mathlib.Core.List.{List}
 use mathlib.Core.Bool.{Bool, true, false, ◌&&◌, ◌||◌, not}
@@ -9,15 +9,14 @@ use lib.ListN.{length, get_or, drop, drop_of_length-le}
 use lib.Seq.{drop-cons}
 use lib.Dec.{leb, ltb, eqb}
 use lib.Bits.{bit_or, or_lt, or_add_and, and_le_l, and_le_r}
-use borrow.Author.Tests.{lt-ltb, le-ltb, le-leb, lt-leb, ltb-true, ltb-false, ne_eqb}
+use borrow.Author.Tests.{lt-ltb, le-ltb, le-leb, lt-leb, ltb-true, ltb-false}
 use Rattle.varint.specs.Number.{bound}
 use Rattle.words.proofs.Laws.{and-true, and_assoc}
-use Rattle.refusal.specs.Outcome.{pick, all}
+use Rattle.refusal.specs.Outcome.{all}
 use Rattle.words.specs.Words.{zeros, every}
 use Rattle.connection_id.specs.ConnectionId.{formed_cid}
 use Rattle.record.specs.declared.PreferredAddress.{PreferredAddress}
 use Rattle.record.specs.Values.{of_v4, of_v6}
-use Rattle.catalogue.specs.Catalogue.{place_of, ids, index_of}
 use Rattle.record.specs.Record.{formed_family, formed_token, formed_address}
 
 -- numbers joined bit by bit are below 2 ^ 62 exactly if both are

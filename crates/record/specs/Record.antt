@@ -1,6 +1,6 @@
 -- Records: well formed; what else a preferred address must be; with a part replaced, and so without order and reserved parameter.
-use Rattle.std.specs.Prelude.{ℕ, ◌*◌, ◌%◌, ◌^◌, List, [], ◌∷◌, Bool, true, false, ◌&&◌, ◌||◌, not, length, get_or, drop, ltb, leb, eqb}
-use Rattle.refusal.specs.Outcome.{Outcome, accepted, refused, pick, all}
+use Rattle.std.specs.Prelude.{ℕ, ◌%◌, [], ◌∷◌, Bool, true, false, ◌&&◌, ◌||◌, not, length, drop, ltb, leb, eqb}
+use Rattle.refusal.specs.Outcome.{pick, all}
 use Rattle.catalogue.specs.Catalogue.{places}
 use Rattle.varint.specs.Number.{bound}
 use Rattle.words.specs.Words.{every, zeros}

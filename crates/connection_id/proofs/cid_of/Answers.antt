@@ -1,10 +1,10 @@
 -- `connection_id::cid_of` meets its contract. The invariant: the first `i` bytes stand over zeros. Assumes nothing.
-use Prim.Native.Nat.{ℕ, ◌≤◌, ◌-◌}
+use Prim.Native.Nat.{ℕ}
 use native.Mathlib.Omega.{arith}
-use mathlib.Core.Path.{◌≡◌, ap}
+use mathlib.Core.Path.{ap}
 use mathlib.Core.List.{List}
 use lib.ListN.{length, replicate}
-use lib.Seq.{paste, paste-zero}
+use lib.Seq.{paste-zero}
 use Rattle.connection_id.specs.ConnectionId.{cid_of}
 use Rattle.connection_id.proofs.Copy.{copied, copied_all}
 use Rattle.connection_id.proofs.cid_of.Goals as goal

@@ -1,12 +1,8 @@
 -- `connection_id::cid_of` meets its contract. The invariant: the first `i` bytes stand over zeros. Assumes nothing.
-use Prim.Native.Nat.{ℕ, ◌≤◌, ◌-◌}
-use native.Mathlib.Omega.{arith}
-use mathlib.Core.Path.{◌≡◌, ap}
-use mathlib.Core.List.{List}
+use Prim.Native.Nat.{◌≤◌, ◌-◌}
+use mathlib.Core.Path.{◌≡◌}
 use lib.ListN.{length, replicate}
-use lib.Seq.{paste, paste-zero}
-use Rattle.connection_id.specs.ConnectionId.{cid_of}
-use Rattle.connection_id.proofs.Copy.{copied, copied_all}
+use lib.Seq.{paste}
 use Rattle.connection_id.proofs.cid_of.Given as goal
 
 abbrev pub invariant-loop-i : goal.invariant-loop-i

@@ -1,10 +1,8 @@
 -- `connection_id::put` meets its contract. The invariant: the first `i` bytes stand behind the first byte of the buffer. Assumes nothing.
-use Prim.Native.Nat.{◌+◌, ◌≤◌, ◌-◌}
-use native.Mathlib.Omega.{arith}
-use mathlib.Core.Path.{◌≡◌, refl, ap, ◌∙◌}
-use lib.ListN.{length, length-set}
-use lib.Seq.{paste, paste-zero}
-use Rattle.connection_id.proofs.Copy.{copied}
+use Prim.Native.Nat.{◌≤◌, ◌-◌}
+use mathlib.Core.Path.{◌≡◌}
+use lib.ListN.{length}
+use lib.Seq.{paste}
 use Rattle.connection_id.proofs.put.Given as goal
 
 abbrev pub invariant-loop-i : goal.invariant-loop-i

@@ -1,5 +1,4 @@
 -- `connection_id::refuse` meets its contract. Assumes nothing.
-use borrow.Author.Rules.{rules}
 use mathlib.Core.Path.{ap}
 use Rattle.connection_id.specs.Answer.{made_of}
 use Rattle.connection_id.proofs.refuse.Goals as goal

@@ -3,7 +3,6 @@ use Rattle.front.proofs.Position.{none_there, short_whole, short_beyond}
 use native.Mathlib.Omega.{arith}
 use Prim.Native.Nat.{◌+◌}
 use mathlib.Core.Path.{refl}
-use borrow.Author.Rules.{rules}
 use Rattle.front.proofs.parameter_at.Goals as goal
 
 pub returns-then-src-at : goal.returns-then-src-at

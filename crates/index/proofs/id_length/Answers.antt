@@ -1,9 +1,7 @@
 -- `index::id_length` meets its contract. Assumes nothing.
 use native.Mathlib.Omega.{arith}
 use mathlib.Core.Path.{sym, ◌∙◌}
-use Rattle.words.proofs.Laws.{not-true, not-false}
 use Rattle.index.specs.Index.{id_len}
-use borrow.Author.Rules.{rules}
 use Rattle.index.proofs.id_length.Goals as goal
 
 pub returns-then-not-is_marked : goal.returns-then-not-is_marked

@@ -1,12 +1,10 @@
 -- `index::index` meets its contract. Assumes nothing.
 use mathlib.Core.Path.{refl, ap, sym, ◌∙◌}
 use Rattle.catalogue.specs.Catalogue.{defaults}
-use Rattle.words.proofs.Laws.{not-true, not-false}
 use Rattle.index.specs.Answer.{scan_outcome}
 use Rattle.index.specs.Index.{initial_kept, id_len, kept_rules}
 use Rattle.index.proofs.Sound.{scan_sound, address_within}
 use Rattle.index.proofs.Settled.{stopped, illegal, allowed}
-use borrow.Author.Rules.{rules}
 use Rattle.index.proofs.index.Goals as goal
 
 pub scan-requires : goal.scan-requires

@@ -1,9 +1,8 @@
 -- `index::is_allowed` meets its contract: the value rules, on what was kept. Assumes nothing.
-use mathlib.Core.Path.{refl, sym, ◌∙◌}
+use mathlib.Core.Path.{sym, ◌∙◌}
 use Rattle.refusal.specs.Outcome.{all}
-use Rattle.words.proofs.Laws.{and-true, not-true, not-false}
-use Rattle.index.specs.Index.{id_len, kept_rules}
-use borrow.Author.Rules.{rules}
+use Rattle.words.proofs.Laws.{and-true}
+use Rattle.index.specs.Index.{kept_rules}
 use Rattle.index.proofs.is_allowed.Goals as goal
 
 pub returns-then-not-numbers_allowed : goal.returns-then-not-numbers_allowed

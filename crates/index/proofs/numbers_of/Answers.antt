@@ -1,7 +1,6 @@
 -- `index::numbers_of` meets its contract. Assumes nothing.
 use mathlib.Core.Path.{refl}
 use Rattle.words.specs.Words.{elements}
-use borrow.Author.Rules.{rules}
 use Rattle.index.proofs.numbers_of.Goals as goal
 
 pub returns : goal.returns

@@ -2,7 +2,6 @@
 use mathlib.Core.Path.{refl}
 use Rattle.catalogue.specs.Catalogue.{defaults}
 use Rattle.index.specs.Index.{initial_kept}
-use borrow.Author.Rules.{rules}
 use Rattle.index.proofs.refuse.Goals as goal
 
 pub returns : goal.returns

@@ -8,7 +8,6 @@ use native.Mathlib.Omega.{arith}
 use native.Mathlib.Nat.{one-mul}
 use mathlib.Core.Path.{ap, ◌∙◌}
 use Prim.Native.Nat.{ℕ, ◌^◌}
-use borrow.Author.Rules.{rules}
 use Rattle.marks.proofs.with_mark.Goals as goal
 
 pub returns-then-place-ge32 : goal.returns-then-place-ge32

@@ -1,5 +1,4 @@
 -- `order::is_permutation` meets its contract: nothing is wrong exactly with a permutation. Assumes nothing.
-use borrow.Author.Rules.{rules}
 use Rattle.order.proofs.Faults.{answered}
 use Rattle.order.proofs.is_permutation.Goals as goal
 

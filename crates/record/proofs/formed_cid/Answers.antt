@@ -2,7 +2,6 @@
 use Rattle.record.specs.Record.{formed_optional_cid}
 use Rattle.words.proofs.Laws.{and-true}
 use Rattle.refusal.specs.Outcome.{all}
-use borrow.Author.Rules.{rules}
 use Rattle.record.proofs.formed_cid.Goals as goal
 
 pub returns : goal.returns

@@ -1,7 +1,6 @@
 -- `record::formed_number` meets its contract, in each case. Assumes nothing.
 use Rattle.record.proofs.Tests.{at_most}
 use Rattle.record.specs.Record.{formed_optional}
-use borrow.Author.Rules.{rules}
 use Rattle.record.proofs.formed_number.Goals as goal
 
 pub returns-in-Absent : goal.returns-in-Absent

@@ -1,13 +1,11 @@
 -- `record::formed_numbers` meets its contract. The invariant: the bits met, and the rest, are below 2 ^ 62 exactly if all are. Assumes nothing.
 use Prim.Native.Nat.{◌≤◌, ◌-◌}
-use native.Mathlib.Omega.{arith}
-use mathlib.Core.Path.{◌≡◌, refl, sym, ◌∙◌}
+use mathlib.Core.Path.{◌≡◌}
 use mathlib.Core.Bool.{◌&&◌}
 use lib.ListN.{length, drop}
 use lib.Dec.{ltb}
 use Rattle.varint.specs.Number.{bound}
 use Rattle.words.specs.Words.{every}
-use Rattle.record.proofs.Tests.{every_drop, every_end, at_most}
 use Rattle.record.proofs.formed_numbers.Given as goal
 
 abbrev pub invariant-loop-i : goal.invariant-loop-i

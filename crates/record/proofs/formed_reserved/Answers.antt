@@ -1,5 +1,4 @@
 -- `record::formed_reserved` meets its contract. Assumes nothing.
-use borrow.Author.Rules.{rules}
 use Rattle.refusal.specs.Outcome.{all}
 use Rattle.words.proofs.Laws.{and-true, whole_array}
 use Rattle.record.specs.Record.{formed_reserved}

@@ -1,5 +1,4 @@
 -- `record::reserved_head` meets its contract. Assumes nothing.
-use borrow.Author.Rules.{rules}
 use Rattle.record.proofs.reserved_head.Goals as goal
 
 pub returns-then-present : goal.returns-then-present

@@ -1,9 +1,8 @@
 -- `rules::check` meets its contract. Assumes nothing.
-use Rattle.words.proofs.Laws.{not-true, not-false, and-true}
+use Rattle.words.proofs.Laws.{and-true}
 use Rattle.rules.specs.Rules.{check_record, legal}
 use mathlib.Core.Path.{sym, ◌∙◌}
 use Rattle.refusal.specs.Outcome.{all}
-use borrow.Author.Rules.{rules}
 use Rattle.rules.proofs.check.Goals as goal
 
 pub returns-then-not-is_well_formed : goal.returns-then-not-is_well_formed

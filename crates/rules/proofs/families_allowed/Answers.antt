@@ -2,7 +2,6 @@
 use Rattle.record.specs.Record.{family_rules}
 use Rattle.refusal.specs.Outcome.{all}
 use Rattle.words.proofs.Laws.{and-true}
-use borrow.Author.Rules.{rules}
 use Rattle.rules.proofs.families_allowed.Goals as goal
 
 pub returns : goal.returns

@@ -2,7 +2,6 @@
 use Rattle.varint.specs.Answer.{read_outcome}
 use mathlib.Core.Path.{ap, sym, ◌∙◌}
 use Rattle.value.proofs.Checks.{number_unread, number_read_lem}
-use borrow.Author.Rules.{rules}
 use Rattle.value.proofs.check_number.Goals as goal
 
 pub returns-in_default : goal.returns-in_default

@@ -4,7 +4,6 @@ use native.Mathlib.Omega.{arith}
 use lib.Seq.{take_all, length-take-le}
 use Rattle.value.specs.Value.{check_value}
 use Rattle.value.proofs.Checks.{simple_told}
-use borrow.Author.Rules.{rules}
 use Rattle.value.proofs.check_value.Goals as goal
 
 pub returns-then-rest-len : goal.returns-then-rest-len

@@ -7,7 +7,6 @@ use Prim.Native.Nat.{◌/◌}
 use lib.ListN.{get_or}
 use mathlib.Core.Path.{◌≡◌, refl, ap, sym, ◌∙◌}
 use native.Mathlib.Omega.{arith}
-use borrow.Author.Rules.{rules}
 use Rattle.varint.proofs.decode_longer.Goals as goal
 
 pub returns-then-src-lt2 : goal.returns-then-src-lt2

@@ -1,6 +1,5 @@
 -- `varint::put` meets its contract: the tests that led to each store pick the tag. Assumes nothing.
 use Rattle.varint.proofs.Bytes.{tag_0, tag_1, tag_2, tag_3, sized, whole, word_stored}
-use borrow.Author.Rules.{rules}
 use Rattle.varint.proofs.put.Goals as goal
 
 pub put1-requires : goal.put1-requires

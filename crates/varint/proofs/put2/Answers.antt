@@ -4,7 +4,6 @@ use lib.Dec.{lit<}
 use lib.ListN.{length-set}
 use Rattle.varint.proofs.Bytes.{form_stored}
 use native.Mathlib.Omega.{arith}
-use borrow.Author.Rules.{rules}
 use Rattle.varint.proofs.put2.Goals as goal
 
 pub returns : goal.returns

@@ -1,7 +1,6 @@
 -- `varint::wide_of` meets its contract: the tag says how many bits count. Assumes nothing.
 use Prim.Native.Nat.{◌/◌, ◌^◌}
 use native.Mathlib.Omega.{arith}
-use borrow.Author.Rules.{rules}
 use Rattle.varint.proofs.Word.{bits_range, read_word}
 use Rattle.varint.proofs.wide_of.Goals as goal
 

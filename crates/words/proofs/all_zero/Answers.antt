@@ -1,11 +1,6 @@
 -- `words::all_zero` meets its contract. The invariant: no bit was met, and the rest are zeros, exactly if all are. Assumes nothing.
-use Prim.Native.Nat.{◌≤◌, ◌-◌}
 use native.Mathlib.Omega.{arith}
-use mathlib.Core.Path.{◌≡◌, refl, sym, ◌∙◌}
-use mathlib.Core.Bool.{◌&&◌}
-use lib.ListN.{length, drop}
-use lib.Dec.{eqb}
-use Rattle.words.specs.Words.{zeros}
+use mathlib.Core.Path.{refl, sym, ◌∙◌}
 use Rattle.words.proofs.Laws.{zeros_drop, zeros_end}
 use Rattle.words.proofs.all_zero.Goals as goal
 

@@ -1,7 +1,6 @@
 -- `words::front8` meets its contract. Assumes nothing.
 use mathlib.Core.Path.{refl}
 use native.Mathlib.Omega.{arith}
-use borrow.Author.Rules.{rules}
 use Rattle.words.specs.Words.{elements}
 use Rattle.words.proofs.Laws.{words_join, word_part}
 use Rattle.words.proofs.front8.Goals as goal

@@ -1,6 +1,5 @@
 -- `words::put_word` meets its contract: the number's bytes are copied. Assumes nothing.
 use mathlib.Core.Path.{◌∙◌}
-use borrow.Author.Rules.{rules}
 use Rattle.words.proofs.put_word.Goals as goal
 
 pub returns : goal.returns

@@ -1,6 +1,5 @@
 -- `words::swapped` meets its contract: the number's bytes make the other. Assumes nothing.
 use mathlib.Core.Path.{◌∙◌}
-use borrow.Author.Rules.{rules}
 use Rattle.words.specs.Words.{elements}
 use Rattle.words.proofs.swapped.Goals as goal
 

@@ -1,5 +1,4 @@
 -- `words::words20` meets its contract. Assumes nothing.
-use borrow.Author.Rules.{rules}
 use Rattle.words.proofs.Laws.{word_part}
 use Rattle.words.proofs.words20.Goals as goal
 

@@ -1,7 +1,6 @@
 -- `words::zero16_from` meets its contract: the bytes make the words. Assumes nothing.
 use mathlib.Core.Path.{refl}
 use mathlib.Core.List.{[]}
-use borrow.Author.Rules.{rules}
 use Rattle.words.specs.Words.{elements}
 use Rattle.words.proofs.Laws.{zero_words, no_word, word_part}
 use Rattle.words.proofs.zero16_from.Goals as goal

@@ -1,5 +1,4 @@
 -- `words::zero4` meets its contract: the bytes make the word. Assumes nothing.
-use borrow.Author.Rules.{rules}
 use Rattle.words.proofs.Laws.{zero_word}
 use Rattle.words.proofs.zero4.Goals as goal
 

@@ -1,5 +1,4 @@
 -- `connection_id::ConnectionId::decode_long` meets its contract: the tests that led to each `return` pick the case of `read_cid`. Assumes nothing.
-use borrow.Author.Rules.{rules}
 use native.Mathlib.Omega.{arith}
 use Rattle.connection_id.proofs.Answers.{refused_with_lem, accepted_with, read_none, read_long, read_short, read_whole}
 use Rattle.connection_id.proofs.ConnectionId.decode_long.Goals as goal

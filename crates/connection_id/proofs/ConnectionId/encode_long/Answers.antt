@@ -1,6 +1,4 @@
 -- `connection_id::ConnectionId::encode_long` meets its contract: the tests that led to each `return` pick the case of `write_cid`. Assumes nothing.
-use borrow.Author.Rules.{rules}
-use borrow.Author.Tests.{not-true, not-false}
 use native.Mathlib.Omega.{arith}
 use mathlib.Core.Path.{sym, ◌∙◌}
 use lib.ListN.{length-set}

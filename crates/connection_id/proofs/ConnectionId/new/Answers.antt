@@ -1,5 +1,4 @@
 -- `connection_id::ConnectionId::new` meets its contract. Assumes nothing.
-use borrow.Author.Rules.{rules}
 use Rattle.connection_id.proofs.Answers.{refused_with_lem, accepted_with, make_long, make_whole}
 use Rattle.connection_id.proofs.ConnectionId.new.Goals as goal
 

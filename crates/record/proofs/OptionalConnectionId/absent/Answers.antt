@@ -1,6 +1,5 @@
 -- `record::OptionalConnectionId::absent` meets its contract. Assumes nothing.
 use Rattle.record.specs.Values.{cid_in}
-use borrow.Author.Rules.{rules}
 use Rattle.record.proofs.OptionalConnectionId.absent.Goals as goal
 
 pub returns : goal.returns

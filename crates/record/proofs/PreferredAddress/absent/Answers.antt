@@ -1,6 +1,5 @@
 -- `record::PreferredAddress::absent` meets its contract. Assumes nothing.
 use Rattle.record.specs.Values.{address_in, family_in}
-use borrow.Author.Rules.{rules}
 use Rattle.record.proofs.PreferredAddress.absent.Goals as goal
 
 pub returns : goal.returns

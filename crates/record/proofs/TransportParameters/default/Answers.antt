@@ -1,7 +1,6 @@
 -- `record::TransportParameters::default` meets its contract. Assumes nothing.
 use Rattle.catalogue.specs.Catalogue.{defaults}
 use Rattle.record.specs.Values.{no_values, number_in, optional_in, record_of}
-use borrow.Author.Rules.{rules}
 use Rattle.record.proofs.TransportParameters.default.Goals as goal
 
 pub returns : goal.returns

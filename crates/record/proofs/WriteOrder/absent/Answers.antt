@@ -1,7 +1,6 @@
 -- `record::WriteOrder::absent` meets its contract. Assumes nothing.
 use mathlib.Core.Path.{refl}
 use Rattle.record.specs.Values.{no_order}
-use borrow.Author.Rules.{rules}
 use Rattle.record.proofs.WriteOrder.absent.Goals as goal
 
 pub returns : goal.returns

@@ -3,7 +3,6 @@ use mathlib.Core.Path.{sym}
 use Prim.Native.Nat.{◌*◌}
 use native.Mathlib.Omega.{arith}
 use borrow.Author.Tests.{le-leb}
-use borrow.Author.Rules.{rules}
 use Rattle.rules.proofs.Milliseconds.covers.Goals as goal
 
 pub returns-then-ms-gt-MAX_SCALED : goal.returns-then-ms-gt-MAX_SCALED

@@ -5,7 +5,6 @@ use lib.ListN.{length, get_or}
 use mathlib.Core.Path.{◌≡◌, refl, ap, sym, ◌∙◌}
 use Rattle.varint.proofs.Bytes.{read_none, read_whole}
 use native.Mathlib.Omega.{arith}
-use borrow.Author.Rules.{rules}
 use Rattle.varint.proofs.VarInt.decode.Goals as goal
 
 pub returns-then-src-eq0 : goal.returns-then-src-eq0

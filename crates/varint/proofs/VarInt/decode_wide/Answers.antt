@@ -1,7 +1,6 @@
 -- `varint::VarInt::decode_wide` meets its contract. Assumes nothing.
 use native.Mathlib.Omega.{arith}
 use mathlib.Core.Path.{ap, ◌∙◌}
-use borrow.Author.Rules.{rules}
 use borrow.Author.Tests.{lt-leb, le-leb}
 use Rattle.words.specs.Words.{bytes_of}
 use Rattle.varint.specs.Number.{read_number}

@@ -4,7 +4,6 @@ use native.Mathlib.Omega.{arith}
 use Rattle.varint.specs.Number.{write_number}
 use Rattle.refusal.specs.Outcome.{store}
 use borrow.Author.Tests.{lt-ltb, le-ltb, le-leb, lt-leb}
-use borrow.Author.Rules.{rules}
 use Rattle.varint.proofs.VarInt.encode.Goals as goal
 
 pub returns-then-x : goal.returns-then-x

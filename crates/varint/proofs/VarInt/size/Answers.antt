@@ -3,7 +3,6 @@ use Prim.Native.Nat.{◌<◌, ◌^◌}
 use native.Mathlib.Omega.{arith}
 use Rattle.varint.specs.Number.{size_number}
 use borrow.Author.Tests.{lt-ltb, le-ltb}
-use borrow.Author.Rules.{rules}
 use Rattle.varint.proofs.VarInt.size.Goals as goal
 
 pub returns-then-x : goal.returns-then-x
