@@ -1,6 +1,7 @@
-//! Links the static library that `rt staticlib yuthpram` writes. `YUTHPRAM_LIB_DIR` names its folder, which is then taken as it is; a
+//! Links the static library that `tools/staticlib yuthpram` writes. `YUTHPRAM_LIB_DIR` names its folder, which is then taken as it is; a
 //! relative path starts at this crate's folder. Without it the folder is `target/staticlib` of this repository, and the library is built
 //! there if it is missing and the kit's `rt` is at hand.
+use std::fs;
 use std::path::{Path, PathBuf};
 use std::process::{exit, Command};
 
@@ -32,10 +33,16 @@ fn given(here: &Path, named: &Path) -> PathBuf {
 fn built(root: &Path) -> PathBuf {
     let dir = root.join("target/staticlib");
     if !dir.join("libyuthpram.a").exists() {
-        let remedy = "Run `rt staticlib yuthpram` in the repository, or name the library's folder in YUTHPRAM_LIB_DIR.";
-        match Command::new("rt").args(["staticlib", "yuthpram"]).current_dir(root).status() {
-            Ok(status) if status.success() => {}
-            Ok(_) => stop(&format!("`rt staticlib yuthpram` failed.\n{remedy}")),
+        let remedy = "Run `tools/staticlib yuthpram` in the repository, or name the library's folder in YUTHPRAM_LIB_DIR.";
+        let source = root.join("crates/yuthpram_c");
+        match Command::new("rt").arg("lib").current_dir(&source).status() {
+            Ok(status) if status.success() => {
+                let made = source.join("out/libyuthpram_c.a");
+                if let Err(e) = fs::create_dir_all(&dir).and_then(|()| fs::copy(&made, dir.join("libyuthpram.a"))) {
+                    stop(&format!("{} cannot be copied to {}: {e}.\n{remedy}", made.display(), dir.display()));
+                }
+            }
+            Ok(_) => stop(&format!("`rt lib` failed in {}.\n{remedy}", source.display())),
             Err(e) => stop(&format!("There is no libyuthpram.a in {}, and `rt` cannot be run: {e}.\n{remedy}", dir.display())),
         }
     }

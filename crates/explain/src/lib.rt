@@ -1,4 +1,6 @@
 // Says what a refusal means and what is at fault: of an extension which parameter, at which byte it starts, and why; of an order which entry.
+#![tactic(auto)]
+
 ghost use Rattle.std.specs.Prelude.{◌≤◌, length};
 
 use catalogue::{
@@ -9,12 +11,11 @@ use catalogue::{
 };
 use front::{Fault, Parameter};
 use index::Scanned;
-use libc::STDERR_FILENO;
 use marks::{is_marked, with_mark};
 use order::OrderFault;
 use refusal::Refusal;
 use rules::Side;
-use text::out::{note, note_line, note_number};
+use text::out::{Out, note, note_hex, note_line, note_number};
 use text::word;
 use value::Value;
 use words::{size, wide};
@@ -27,7 +28,7 @@ struct Culprit {
     fault: Fault,
 }
 
-pub fn note_refusal(r: Refusal) {
+pub fn note_refusal(out: &mut Out, r: Refusal) {
     let refusals = b"-
 refused 1: malformed
 refused 2: a value that is not allowed
@@ -38,12 +39,20 @@ refused 6: the order is not a permutation of 0 to 20
 refused 7: the record is not well formed
 refused 8: a remembered limit is reduced
 refused 9: a drawn value is out of range";
-    note_line(refusals, r.number() as usize);
+    note_line(out, refusals, r.number() as usize);
+}
+
+// The same side once more.
+pub fn same_side(side: &Side) -> Side {
+    match side {
+        Side::Client => Side::Client,
+        Side::Server => Side::Server,
+    }
 }
 
 // Whether an extension is refused.
-fn is_broken(side: Side, src: &[u8]) -> bool {
-    let entries = index::index(side, src);
+fn is_broken(side: &Side, src: &[u8]) -> bool {
+    let entries = index::index(same_side(side), src);
     let found = entries.found;
     match found {
         Scanned::Marks(_) => false,
@@ -52,7 +61,7 @@ fn is_broken(side: Side, src: &[u8]) -> bool {
 }
 
 // Whether a parameter may be the one that breaks a value rule: it does so by itself, or is min_ack_delay, which is held to max_ack_delay.
-fn is_suspect(side: Side, place: usize, parameter: &[u8]) -> bool {
+fn is_suspect(side: &Side, place: usize, parameter: &[u8]) -> bool {
     if place == MIN_ACK_DELAY {
         return true;
     }
@@ -83,7 +92,7 @@ fn front_at(src: &[u8], at: usize) -> Front
 
 // The culprit of an extension that is refused: the first fault from the front, as reading finds it. If there is none, a value rule is broken:
 // by the first parameter that breaks one by itself, or else by min_ack_delay.
-fn locate(side: Side, src: &[u8]) -> Culprit {
+fn locate(side: &Side, src: &[u8]) -> Culprit {
     let mut met: u32 = 0;
     let mut is_found = false;
     let mut rule_at: usize = 0;
@@ -127,7 +136,7 @@ fn locate(side: Side, src: &[u8]) -> Culprit {
 }
 
 // What is wrong with a parameter, by its line of the causes: a second copy, a rule that its value breaks, or a value that does not fit its length.
-fn cause(side: Side, fault: Fault, place: usize) -> usize {
+fn cause(side: &Side, fault: Fault, place: usize) -> usize {
     match fault {
         Fault::SecondCopy => 0,
         Fault::Illegal => match place {
@@ -153,7 +162,7 @@ fn cause(side: Side, fault: Fault, place: usize) -> usize {
 }
 
 // Which parameter it is, and what is wrong with it.
-fn note_cause(side: Side, c: Culprit) {
+fn note_cause(out: &mut Out, side: &Side, c: Culprit) {
     let fault = c.fault;
     let id = c.id;
     let place = catalogue::place_of(id);
@@ -171,53 +180,52 @@ under 2
 longer than max_ack_delay
 no address, or an empty connection ID
 a client may not send it";
-    note(word(&NAMES, place, b' '));
-    note(b" (0x");
-    io::print_hex(STDERR_FILENO, id, 2);
-    note(b"): ");
-    note_line(causes, cause(side, fault, place));
+    note(out, word(&NAMES, place, b' '));
+    note(out, b" (0x");
+    note_hex(out, id);
+    note(out, b"): ");
+    note_line(out, causes, cause(side, fault, place));
 }
 
 // A refusal of reading, and its cause.
-pub fn note_reading(side: Side, r: Refusal, src: &[u8]) {
-    let c = locate(side, src);
-    let fault = c.fault;
-    note_refusal(r);
-    note(b"at byte ");
-    note_number(c.at as u64);
-    if let Fault::Cut = fault {
-        note(b": the input ends within this parameter\n");
+pub fn note_reading(out: &mut Out, side: Side, r: Refusal, src: &[u8]) {
+    let c = locate(&side, src);
+    note_refusal(out, r);
+    note(out, b"at byte ");
+    note_number(out, c.at as u64);
+    if let Fault::Cut = &c.fault {
+        note(out, b": the input ends within this parameter\n");
         return;
     }
-    note(b", ");
-    note_cause(side, c);
+    note(out, b", ");
+    note_cause(out, &side, c);
 }
 
 // The cause alone, of a record's extension. If the extension is accepted, no value rule is broken: then a family that is given is all zero.
-pub fn note_culprit(side: Side, src: &[u8]) {
-    if is_broken(side, src) {
-        note_cause(side, locate(side, src));
+pub fn note_culprit(out: &mut Out, side: Side, src: &[u8]) {
+    if is_broken(&side, src) {
+        note_cause(out, &side, locate(&side, src));
     } else {
-        note(b"preferred_address: a family of zeros and port 0\n");
+        note(out, b"preferred_address: a family of zeros and port 0\n");
     }
 }
 
 // The first fault of an order: its position and, unless entries are only missing, the entry there.
-pub fn note_order_fault(order: &[u8]) {
+pub fn note_order_fault(out: &mut Out, order: &[u8]) {
     let OrderFault::At(i) = order::order_fault(order) else {
         return;
     };
-    note(b"at position ");
-    note_number(i as u64);
+    note(out, b"at position ");
+    note_number(out, i as u64);
     if order.len() <= i {
-        note(b": entries are missing\n");
+        note(out, b": entries are missing\n");
         return;
     }
-    note(b", entry ");
-    note_number(wide(order[i]));
+    note(out, b", entry ");
+    note_number(out, wide(order[i]));
     if PLACES <= size(order[i]) {
-        note(b": out of range\n");
+        note(out, b": out of range\n");
     } else {
-        note(b": it repeats an earlier one\n");
+        note(out, b": it repeats an earlier one\n");
     }
 }

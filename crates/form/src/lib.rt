@@ -1,4 +1,6 @@
 // The text form of a record: lines of a name and a value. It becomes the image of the record, line by line, or a line is found that is amiss.
+#![tactic(auto)]
+
 ghost use Rattle.std.specs.Prelude.{◌<◌};
 
 use catalogue::{
@@ -11,7 +13,7 @@ use show::rows::{
     ADDRESS_CID, ADDRESS_FLAG, ADDRESS_TOKEN, ADDRESS_V4, ADDRESS_V6, BLANK, ORDER, ROWS, flag_at,
     row_of, value_at,
 };
-use text::out::{note, note_line, note_number};
+use text::out::{Out, note, note_line, note_number};
 use text::{Hex, line_at, parse_hex, position, put_16, put_list, put_number, set, word};
 use words::low;
 
@@ -51,7 +53,7 @@ fn unless(fine: bool, what: usize) -> usize {
 fn put_counted(digits: &[u8], out: &mut [u8], at: usize, room: u8) -> usize
     requires { at < 70000 }
 {
-    if check::same(digits, b"(empty)") {
+    if digits == b"(empty)".as_slice() {
         return FINE;
     }
     match parse_hex(digits, out, at + 1, room as usize) {
@@ -194,7 +196,7 @@ fn clear(out: &mut [u8]) {
 }
 
 // The image of the record that a text says; tells whether each line is understood, and complains if not.
-pub fn fill(text: &[u8], out: &mut [u8]) -> bool {
+pub fn fill(to: &mut Out, text: &[u8], out: &mut [u8]) -> bool {
     clear(out);
     let slip = put_lines(text, out);
     let what = slip.what;
@@ -211,9 +213,9 @@ a flag has no value, or set
 not an address and a port
 not 21 places
 more than a value";
-    note(b"yuthpram: line ");
-    note_number(slip.line as u64);
-    note(b": ");
-    note_line(complaints, what);
+    note(to, b"yuthpram: line ");
+    note_number(to, slip.line as u64);
+    note(to, b": ");
+    note_line(to, complaints, what);
     false
 }

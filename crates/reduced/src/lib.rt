@@ -1,4 +1,6 @@
 // Says which limits a record reduces that is resumed to from a remembered one, by their images.
+#![tactic(auto)]
+
 use catalogue::{
     ACTIVE_CONNECTION_ID_LIMIT, GREASE_QUIC_BIT, INITIAL_MAX_DATA,
     INITIAL_MAX_STREAM_DATA_BIDI_LOCAL, INITIAL_MAX_STREAM_DATA_BIDI_REMOTE,
@@ -6,7 +8,7 @@ use catalogue::{
     MAX_DATAGRAM_FRAME_SIZE, NAMES,
 };
 use show::rows::{flag_at, value_at};
-use text::out::{note, note_number};
+use text::out::{Out, note, note_number};
 use text::{byte, word};
 use words::{big8, wide};
 
@@ -36,38 +38,36 @@ fn counted(place: usize, image: &[u8]) -> u64 {
 }
 
 // The same in words.
-fn note_counted(place: usize, image: &[u8]) {
+fn note_counted(out: &mut Out, place: usize, image: &[u8]) {
     let n = counted(place, image);
     if place == GREASE_QUIC_BIT {
-        note(word(b"not set\nset", n as usize, b'\n'));
+        note(out, word(b"not set\nset", n as usize, b'\n'));
         return;
     }
     if place == MAX_DATAGRAM_FRAME_SIZE && byte(image, flag_at(place), 0) == 0 {
-        note(b"absent");
+        note(out, b"absent");
         return;
     }
-    note_number(n);
+    note_number(out, n);
 }
 
 // A limit that a record reduces: what it was, and what it is.
-fn note_limit(place: usize, new: &[u8], cached: &[u8]) {
-    note(word(&NAMES, place, b' '));
-    note(b": was ");
-    note_counted(place, cached);
-    note(b", now ");
-    note_counted(place, new);
-    note(b"\n");
+fn note_limit(out: &mut Out, place: usize, new: &[u8], cached: &[u8]) {
+    note(out, word(&NAMES, place, b' '));
+    note(out, b": was ");
+    note_counted(out, place, cached);
+    note(out, b", now ");
+    note_counted(out, place, new);
+    note(out, b"\n");
 }
 
 // The limits that a record reduces, by its image and that of the remembered one.
-pub fn note_reduced(new: &[u8], cached: &[u8]) {
+pub fn note_reduced(out: &mut Out, new: &[u8], cached: &[u8]) {
     let places = REMEMBERED;
-    let mut i: usize = 0;
-    while i < 9 {
+    for i in 0..9 {
         let place = places[i];
         if counted(place, new) < counted(place, cached) {
-            note_limit(place, new, cached);
+            note_limit(out, place, new, cached);
         }
-        i += 1;
     }
 }

@@ -1,8 +1,10 @@
 // Replays recorded answers, quinn's but where document 01 or 02 gives another: standard input holds the list that `oracle/run record` wrote, and
 // oracle/src/list.rs says how an entry is laid out. Each call goes through the C interface's functions; compared are refusal, number, bytes
 // stored and bytes left alone.
-use libc::{STDIN_FILENO, STDOUT_FILENO};
-use text::word;
+#![tactic(auto)]
+
+use std::io;
+use std::io::{Read, Stdin};
 
 // The longest input or output of an entry.
 const MOST: usize = 512;
@@ -16,7 +18,7 @@ const FILL: u8 = 0xa7;
 const UNTOUCHED: u64 = 0xa7a7a7a7a7a7a7a7;
 
 // The head of an entry: a call, what is due, and where each part of what follows ends.
-#[derive(Drop)]
+#[derive(Clone, Copy)]
 struct Head {
     op: u8,
     code: u8,
@@ -268,7 +270,7 @@ fn holds(out: &[u8], due: &[u8]) -> bool {
     if MOST < n {
         return false;
     }
-    check::same(&out[0..n], due) && check::same(&out[n..], &before[n..])
+    &out[..n] == due && &out[n..] == &before[n..]
 }
 
 // The value of number_read stands where other operations have the bytes due.
@@ -284,11 +286,11 @@ fn agrees(h: Head, body: &[u8]) -> bool {
 }
 
 // Reads `n` bytes of the list to the front of `buf`.
-fn take(buf: &mut [u8], n: usize) -> bool {
+fn take(list: &mut Stdin, buf: &mut [u8], n: usize) -> bool {
     if buf.len() < n {
         return false;
     }
-    io::read_full(STDIN_FILENO, &mut buf[0..n]) == n
+    list.read_exact(&mut buf[0..n]).is_ok()
 }
 
 #[derive(Drop)]
@@ -300,9 +302,9 @@ enum Verdict {
 }
 
 // Takes what stands behind an entry's head, and makes the call.
-fn judge(h: Head) -> Verdict {
+fn judge(list: &mut Stdin, h: Head) -> Verdict {
     let mut body = [0u8; 2048];
-    if !take(&mut body, h.due) {
+    if !take(list, &mut body, h.due) {
         return Verdict::Broken;
     }
     if agrees(h, &body) {
@@ -315,20 +317,24 @@ fn judge(h: Head) -> Verdict {
 fn one_more(counts: &mut [u64; OPERATIONS], op: u8) {
     let i = op as usize;
     if i < OPERATIONS {
-        counts[i] = std::num::wrapping_add_u64(counts[i], 1);
+        counts[i] = counts[i].wrapping_add(1);
     }
 }
 
 // One entry; whether to go on. The list ends where no head is left.
-fn entry(cases: &mut [u64; OPERATIONS], differences: &mut [u64; OPERATIONS]) -> bool {
+fn entry(
+    list: &mut Stdin,
+    cases: &mut [u64; OPERATIONS],
+    differences: &mut [u64; OPERATIONS],
+) -> bool {
     let mut bytes = [0u8; 32];
-    if !take(&mut bytes, 32) {
+    if !take(list, &mut bytes, 32) {
         return false;
     }
     let h = head_of(&bytes);
     let op = h.op;
     one_more(cases, op);
-    match judge(h) {
+    match judge(list, h) {
         Verdict::Same => true,
         Verdict::Different => {
             one_more(differences, op);
@@ -342,54 +348,64 @@ fn entry(cases: &mut [u64; OPERATIONS], differences: &mut [u64; OPERATIONS]) -> 
 }
 
 // Goes through the list. The count of turns is for the proof that it ends: no list is so long.
-fn replay(cases: &mut [u64; OPERATIONS], differences: &mut [u64; OPERATIONS]) {
-    let mut turns = u64::MAX;
-    while turns > 0 && entry(cases, differences) {
-        turns -= 1;
+fn replay(list: &mut Stdin, cases: &mut [u64; OPERATIONS], differences: &mut [u64; OPERATIONS]) {
+    for _ in 0..u64::MAX {
+        if !entry(list, cases, differences) {
+            return;
+        }
     }
 }
 
-fn show(name: &[u8], i: usize, cases: &[u64; OPERATIONS], differences: &[u64; OPERATIONS]) {
+fn show(
+    rt: &HostRuntime,
+    name: &str,
+    i: usize,
+    cases: &[u64; OPERATIONS],
+    differences: &[u64; OPERATIONS],
+) -> io::Result<()> {
     if OPERATIONS <= i {
-        return;
+        return Ok(());
     }
-    io::write_all(STDOUT_FILENO, name);
-    io::write_all(STDOUT_FILENO, b": ");
-    io::print_decimal(STDOUT_FILENO, cases[i]);
-    io::write_all(STDOUT_FILENO, b" cases, ");
-    io::print_decimal(STDOUT_FILENO, differences[i]);
-    io::write_all(STDOUT_FILENO, b" differences\n");
+    let all = cases[i];
+    let different = differences[i];
+    println!(rt; "{name}: {all} cases, {different} differences")
 }
 
 // A line for each operation.
-fn show_all(cases: &[u64; OPERATIONS], differences: &[u64; OPERATIONS]) {
-    let names = b"number_size
-number_read
-number_write
-cid_read
-cid_write
-default
-read
-write
-new
-resumption
-issue_limit
-check
-tidy
-tidy twice
-check_order
-length
-order_fault";
-    let mut i: usize = 0;
-    while i < OPERATIONS {
-        show(word(names, i, b'\n'), i, cases, differences);
-        i += 1;
+fn show_all(
+    rt: &HostRuntime,
+    cases: &[u64; OPERATIONS],
+    differences: &[u64; OPERATIONS],
+) -> io::Result<()> {
+    let names: [&str; OPERATIONS] = [
+        "number_size",
+        "number_read",
+        "number_write",
+        "cid_read",
+        "cid_write",
+        "default",
+        "read",
+        "write",
+        "new",
+        "resumption",
+        "issue_limit",
+        "check",
+        "tidy",
+        "tidy twice",
+        "check_order",
+        "length",
+        "order_fault",
+    ];
+    for i in 0..OPERATIONS {
+        show(rt, names[i], i, cases, differences)?;
     }
+    Ok(())
 }
 
-fn main() {
+fn main(rt: HostRuntime) -> io::Result<()> {
     let mut cases = [0u64; OPERATIONS];
     let mut differences = [0u64; OPERATIONS];
-    replay(&mut cases, &mut differences);
-    show_all(&cases, &differences);
+    let mut list = rt.stdin();
+    replay(&mut list, &mut cases, &mut differences);
+    show_all(&rt, &cases, &differences)
 }

@@ -3,7 +3,7 @@
 ghost use Rattle.std.specs.Prelude.{◌<◌};
 
 use catalogue::{NAME_WIDTH, NAMES, PLACES};
-use text::out::say;
+use text::out::{Out, say};
 use text::{position, word};
 
 pub const ADDRESS_V4: usize = 21;
@@ -61,19 +61,19 @@ pub fn flag_at(row: usize) -> usize {
 }
 
 // The name of a row, in a column.
-pub fn say_label(row: usize) {
+pub fn say_label(out: &mut Out, row: usize) {
     let first = NAMES;
     let rest = REST_NAMES;
     if row < PLACES {
         let from = row * NAME_WIDTH;
         let to = from + NAME_WIDTH;
-        say(&first[from..to]);
+        say(out, &first[from..to]);
         return;
     }
     if row < ROWS {
         let from = (row - PLACES) * NAME_WIDTH;
         let to = from + NAME_WIDTH;
-        say(&rest[from..to]);
+        say(out, &rest[from..to]);
     }
 }
 

@@ -1,4 +1,6 @@
 // Text: lines and words, hexadecimal and decimal; single bytes of a buffer; and, in `out`, printing.
+#![tactic(auto)]
+
 ghost use Rattle.std.specs.Prelude.{◌≡◌, ◌+◌, ◌-◌, ◌*◌, ◌≤◌, ◌^◌, length, get_or, drop, leb};
 ghost use Rattle.std.proofs.lemmas.List.Edits.{sets};
 ghost use Rattle.refusal.specs.Outcome.{pick};
@@ -107,14 +109,12 @@ pub fn word<'a>(text: &'a [u8], k: usize, sep: u8) -> &'a [u8]
 pub fn position(list: &[u8], n: usize, w: &[u8]) -> usize
     ensures { result ≤ n }
 {
-    let mut k: usize = 0;
-    while k < n {
-        if check::same(word(list, k, b' '), w) {
+    for k in 0..n {
+        if word(list, k, b' ') == w {
             return k;
         }
-        k += 1;
     }
-    k
+    n
 }
 
 // The line that starts at `at`, without its end; empty beyond the text.
@@ -124,8 +124,11 @@ pub fn line_at<'a>(text: &'a [u8], at: usize) -> &'a [u8]
     if text.len() < at {
         return &text[0..0];
     }
-    let end = bytes::scan::find(text, at, text.len(), b'\n');
-    &text[at..end]
+    let rest = &text[at..];
+    match rest.iter().position(|b| *b == b'\n') {
+        Some(n) => &rest[..n],
+        None => rest,
+    }
 }
 
 fn in_range(low: u8, high: u8, b: u8) -> bool

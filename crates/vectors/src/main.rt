@@ -1,16 +1,14 @@
 // Runs the sample numbers of RFC 9000 appendix A.1, the boundaries of the number forms, and connection IDs, and says what came out.
+#![tactic(auto)]
+
 use connection_id::{ConnectionId, DecodedCid};
-use libc::STDOUT_FILENO;
 use refusal::{Counted, Refusal};
+use std::io;
 use varint::{Decoded, VarInt};
 
-fn show(name: &[u8], ok: bool) {
-    io::write_all(STDOUT_FILENO, name);
-    if ok {
-        io::write_all(STDOUT_FILENO, b": ok\n");
-    } else {
-        io::write_all(STDOUT_FILENO, b": FAILED\n");
-    }
+fn show(rt: &HostRuntime, name: &str, ok: bool) -> io::Result<()> {
+    let verdict = if ok { "ok" } else { "FAILED" };
+    println!(rt; "{name}: {verdict}")
 }
 
 // A number that reads as `value` and takes `count` bytes.
@@ -80,38 +78,47 @@ fn reads_back(out: &[u8; 9], value: u64, size: usize) -> bool {
     out[size] == 0xee && reads(out, value, size)
 }
 
-fn numbers() {
+fn numbers(rt: &HostRuntime) -> io::Result<()> {
     show(
-        b"A.1 eight bytes",
+        rt,
+        "A.1 eight bytes",
         reads(b"\xc2\x19\x7c\x5e\xff\x14\xe8\x8c", 151288809941952652, 8),
-    );
-    show(b"A.1 four bytes", reads(b"\x9d\x7f\x3e\x7d", 494878333, 4));
-    show(b"A.1 two bytes", reads(b"\x7b\xbd", 15293, 2));
-    show(b"A.1 one byte", reads(b"\x25", 37, 1));
-    show(b"A.1 longer than needed", reads(b"\x40\x25", 37, 2));
+    )?;
+    show(
+        rt,
+        "A.1 four bytes",
+        reads(b"\x9d\x7f\x3e\x7d", 494878333, 4),
+    )?;
+    show(rt, "A.1 two bytes", reads(b"\x7b\xbd", 15293, 2))?;
+    show(rt, "A.1 one byte", reads(b"\x25", 37, 1))?;
+    show(rt, "A.1 longer than needed", reads(b"\x40\x25", 37, 2))?;
+    Ok(())
 }
 
-fn boundaries() {
-    show(b"0", round_trip(0, 1));
-    show(b"63", round_trip(63, 1));
-    show(b"64", round_trip(64, 2));
-    show(b"16383", round_trip(16383, 2));
-    show(b"16384", round_trip(16384, 4));
-    show(b"2^30 - 1", round_trip(1073741823, 4));
-    show(b"2^30", round_trip(1073741824, 8));
-    show(b"2^62 - 1", round_trip(4611686018427387903, 8));
+fn boundaries(rt: &HostRuntime) -> io::Result<()> {
+    show(rt, "0", round_trip(0, 1))?;
+    show(rt, "63", round_trip(63, 1))?;
+    show(rt, "64", round_trip(64, 2))?;
+    show(rt, "16383", round_trip(16383, 2))?;
+    show(rt, "16384", round_trip(16384, 4))?;
+    show(rt, "2^30 - 1", round_trip(1073741823, 4))?;
+    show(rt, "2^30", round_trip(1073741824, 8))?;
+    show(rt, "2^62 - 1", round_trip(4611686018427387903, 8))?;
+    Ok(())
 }
 
-fn cuts() {
-    show(b"no byte", cut(b""));
-    show(b"tag 1 cut", cut(b"\x40"));
-    show(b"tag 2 cut", cut(b"\x80\x00\x00"));
-    show(b"tag 3 cut", cut(b"\xc0\x00\x00\x00\x00\x00\x00"));
+fn cuts(rt: &HostRuntime) -> io::Result<()> {
+    show(rt, "no byte", cut(b""))?;
+    show(rt, "tag 1 cut", cut(b"\x40"))?;
+    show(rt, "tag 2 cut", cut(b"\x80\x00\x00"))?;
+    show(rt, "tag 3 cut", cut(b"\xc0\x00\x00\x00\x00\x00\x00"))?;
     let mut none = [0xeeu8; 1];
     show(
-        b"2^62 is refused with 4 before 5",
+        rt,
+        "2^62 is refused with 4 before 5",
         written(4611686018427387904, &mut none) == 104 && none[0] == 0xee,
-    );
+    )?;
+    Ok(())
 }
 
 // The refusal of a connection ID, or 0.
@@ -123,35 +130,41 @@ fn cid_refusal(d: DecodedCid) -> u8 {
     }
 }
 
-fn cids() {
+fn cids(rt: &HostRuntime) -> io::Result<()> {
     show(
-        b"ID without a length byte",
+        rt,
+        "ID without a length byte",
         cid_refusal(ConnectionId::decode_long(b"")) == 1,
-    );
+    )?;
     show(
-        b"ID cut",
+        rt,
+        "ID cut",
         cid_refusal(ConnectionId::decode_long(b"\x02\xaa")) == 1,
-    );
+    )?;
     show(
-        b"ID of 21 bytes",
+        rt,
+        "ID of 21 bytes",
         cid_refusal(ConnectionId::decode_long(b"\x15aaaaaaaaaaaaaaaaaaaaa")) == 1,
-    );
+    )?;
     show(
-        b"empty ID",
+        rt,
+        "empty ID",
         cid_refusal(ConnectionId::decode_long(b"\x00")) == 0,
-    );
+    )?;
     let d = ConnectionId::decode_long(b"\x02\xaa\xbb\xcc");
     let c = d.cid;
     let b = c.bytes;
     show(
-        b"ID of 2 bytes",
+        rt,
+        "ID of 2 bytes",
         c.len == 2 && b[0] == 0xaa && b[1] == 0xbb && b[2] == 0,
-    );
+    )?;
+    Ok(())
 }
 
-fn main() {
-    numbers();
-    boundaries();
-    cuts();
-    cids();
+fn main(rt: HostRuntime) -> io::Result<()> {
+    numbers(&rt)?;
+    boundaries(&rt)?;
+    cuts(&rt)?;
+    cids(&rt)
 }

@@ -2,70 +2,69 @@
 use crate::Status;
 use crate::input::first;
 use catalogue::{MAX_EXTENSION, PLACES};
-use explain::{note_culprit, note_order_fault, note_reading, note_refusal};
+use explain::{note_culprit, note_order_fault, note_reading, note_refusal, same_side};
 use image::RECORD_SIZE;
-use libc::{STDERR_FILENO, STDOUT_FILENO};
 use order::OrderFault;
 use record::TransportParameters;
 use reduced::note_reduced;
 use refusal::{Answer, Counted, Refusal};
 use rules::Side;
 use show::rows::{ORDER, value_at};
-use text::out::{note, put_count, say, say_hex, say_number};
+use text::out::{Out, Stream, note, put_count, say, say_hex, say_number};
 use varint::{Decoded, VarInt};
 
-fn refused(r: Refusal) -> Status {
-    note_refusal(r);
+fn refused(out: &mut Out, r: Refusal) -> Status {
+    note_refusal(out, r);
     Status::Refused
 }
 
 // A refusal of reading, and what is at fault.
-fn unread(side: Side, r: Refusal, src: &[u8]) -> Status {
-    note_reading(side, r, src);
+fn unread(out: &mut Out, side: Side, r: Refusal, src: &[u8]) -> Status {
+    note_reading(out, side, r, src);
     Status::Refused
 }
 
 // Shows the record that reading gave, and before it its length.
-fn show_record(r: TransportParameters) {
+fn show_record(out: &mut Out, r: TransportParameters) {
     let mut record = [0u8; RECORD_SIZE];
     image::image_to(r, &mut record);
-    note_length(&record);
-    show::show(&record);
+    note_length(out, &record);
+    show::show(out, &record);
 }
 
-fn note_length(record: &[u8]) {
+fn note_length(out: &mut Out, record: &[u8]) {
     if let Counted::Count(n) = by_image::length(record) {
-        note(b"length ");
-        put_count(STDERR_FILENO, n);
-        note(b"\n");
+        note(out, b"length ");
+        put_count(out, Stream::Error, n);
+        note(out, b"\n");
     }
 }
 
 // Reads an extension, and shows it or only tells that it is accepted.
-pub fn read(side: Side, src: &[u8], is_shown: bool) -> Status {
-    let reading = reader::read(side, src);
+pub fn read(out: &mut Out, side: Side, src: &[u8], is_shown: bool) -> Status {
+    let reading = reader::read(same_side(&side), src);
     let answer = reading.answer;
     if let Answer::Refused(r) = answer {
-        return unread(side, r, src);
+        return unread(out, side, r, src);
     }
     if is_shown {
         let r = reading.parameters;
-        show_record(r);
+        show_record(out, r);
     } else {
-        say(b"accepted\n");
+        say(out, b"accepted\n");
     }
     Status::Answered
 }
 
-// Bytes that were stored at the front of `out`.
-fn say_stored(stored: Counted, out: &[u8]) -> Status {
+// Bytes that were stored at the front of `bytes`.
+fn say_stored(out: &mut Out, stored: Counted, bytes: &[u8]) -> Status {
     match stored {
         Counted::Count(n) => {
-            say_hex(out, 0, n);
-            say(b"\n");
+            say_hex(out, bytes, 0, n);
+            say(out, b"\n");
             Status::Answered
         }
-        Counted::Refused(r) => refused(r),
+        Counted::Refused(r) => refused(out, r),
     }
 }
 
@@ -80,139 +79,141 @@ fn order_in<'a>(record: &'a [u8]) -> &'a [u8] {
 }
 
 // Tells what is wrong with an order.
-pub fn order_fault(order: &[u8]) -> Status {
+pub fn order_fault(out: &mut Out, order: &[u8]) -> Status {
     let OrderFault::At(_) = order::order_fault(order) else {
-        say(b"a permutation of 0 to 20\n");
+        say(out, b"a permutation of 0 to 20\n");
         return Status::Answered;
     };
-    note_refusal(Refusal::InvalidOrder);
-    note_order_fault(order);
+    note_refusal(out, Refusal::InvalidOrder);
+    note_order_fault(out, order);
     Status::Refused
 }
 
 // Writes a record in text form.
-pub fn write(text: &[u8]) -> Status {
+pub fn write(out: &mut Out, text: &[u8]) -> Status {
     let mut record = [0u8; RECORD_SIZE];
-    if !form::fill(text, &mut record) {
+    if !form::fill(out, text, &mut record) {
         return Status::Misused;
     }
-    let mut out = [0u8; MAX_EXTENSION];
-    let stored = by_image::write(&record, &mut out);
+    let mut bytes = [0u8; MAX_EXTENSION];
+    let stored = by_image::write(&record, &mut bytes);
     let Counted::Refused(r) = stored else {
-        note_length(&record);
-        return say_stored(stored, &out);
+        note_length(out, &record);
+        return say_stored(out, stored, &bytes);
     };
     if let Refusal::InvalidOrder = r {
-        return order_fault(order_in(&record));
+        return order_fault(out, order_in(&record));
     }
-    refused(r)
+    refused(out, r)
 }
 
 // Tells the length of a record in text form.
-pub fn length(text: &[u8]) -> Status {
+pub fn length(out: &mut Out, text: &[u8]) -> Status {
     let mut record = [0u8; RECORD_SIZE];
-    if !form::fill(text, &mut record) {
+    if !form::fill(out, text, &mut record) {
         return Status::Misused;
     }
     match by_image::length(&record) {
         Counted::Count(n) => {
-            put_count(STDOUT_FILENO, n);
-            say(b"\n");
+            put_count(out, Stream::Output, n);
+            say(out, b"\n");
             Status::Answered
         }
-        Counted::Refused(r) => refused(r),
+        Counted::Refused(r) => refused(out, r),
     }
 }
 
 // What is wrong with a record that is resumed to, or with the remembered one.
-fn unresumed(r: Refusal, record: &[u8], cached: &[u8]) -> Status {
-    note_refusal(r);
-    if let Refusal::LimitReduced = r {
-        note_reduced(record, cached);
+fn unresumed(out: &mut Out, r: Refusal, record: &[u8], cached: &[u8]) -> Status {
+    let is_reduced = matches!(&r, Refusal::LimitReduced);
+    note_refusal(out, r);
+    if is_reduced {
+        note_reduced(out, record, cached);
     } else if let Counted::Refused(_) = by_image::length(cached) {
-        note(b"it is the remembered one\n");
+        note(out, b"it is the remembered one\n");
     }
     Status::Refused
 }
 
 // Tells whether a record may be resumed to from a remembered one, by the images of both, and if not, which limits it reduces.
-pub fn validate_resumption_from(record: &[u8], cached: &[u8]) -> Status {
+pub fn validate_resumption_from(out: &mut Out, record: &[u8], cached: &[u8]) -> Status {
     match by_image::validate_resumption_from(record, cached) {
         Answer::Accepted => {
-            say(b"accepted\n");
+            say(out, b"accepted\n");
             Status::Answered
         }
-        Answer::Refused(r) => unresumed(r, record, cached),
+        Answer::Refused(r) => unresumed(out, r, record, cached),
     }
 }
 
 // Which rule a record breaks: that which its extension breaks, or that no family that is given is all zero.
-fn note_rule(side: Side, record: &[u8]) {
-    let mut out = [0u8; MAX_EXTENSION];
-    let Counted::Count(n) = by_image::write(record, &mut out) else {
+fn note_rule(out: &mut Out, side: Side, record: &[u8]) {
+    let mut bytes = [0u8; MAX_EXTENSION];
+    let Counted::Count(n) = by_image::write(record, &mut bytes) else {
         return;
     };
-    note_culprit(side, first(n, &out));
+    note_culprit(out, side, first(n, &bytes));
 }
 
 // Checks a record in text form.
-fn check_record(side: Side, text: &[u8]) -> Status {
+fn check_record(out: &mut Out, side: Side, text: &[u8]) -> Status {
     let mut record = [0u8; RECORD_SIZE];
-    if !form::fill(text, &mut record) {
+    if !form::fill(out, text, &mut record) {
         return Status::Misused;
     }
-    let Answer::Refused(r) = by_image::check(&record, side) else {
-        say(b"legal\n");
+    let Answer::Refused(r) = by_image::check(&record, same_side(&side)) else {
+        say(out, b"legal\n");
         return Status::Answered;
     };
-    refused(r);
-    if let Refusal::IllegalValue = r {
-        note_rule(side, &record);
+    let is_illegal = matches!(&r, Refusal::IllegalValue);
+    refused(out, r);
+    if is_illegal {
+        note_rule(out, side, &record);
     }
     Status::Refused
 }
 
 // Checks an extension, or a record in text form.
-pub fn check(side: Side, bytes: &[u8], is_record: bool) -> Status {
+pub fn check(out: &mut Out, side: Side, bytes: &[u8], is_record: bool) -> Status {
     if is_record {
-        return check_record(side, bytes);
+        return check_record(out, side, bytes);
     }
-    read(side, bytes, false)
+    read(out, side, bytes, false)
 }
 
-pub fn tidy(side: Side, src: &[u8]) -> Status {
-    let mut out = [0u8; MAX_EXTENSION];
-    let stored = tidy::tidy(side, src, &mut out);
+pub fn tidy(out: &mut Out, side: Side, src: &[u8]) -> Status {
+    let mut bytes = [0u8; MAX_EXTENSION];
+    let stored = tidy::tidy(same_side(&side), src, &mut bytes);
     match stored {
-        Counted::Refused(r) => unread(side, r, src),
+        Counted::Refused(r) => unread(out, side, r, src),
         Counted::Count(n) => {
-            say_stored(stored, &out);
+            say_stored(out, stored, &bytes);
             if n <= src.len() {
-                put_count(STDERR_FILENO, src.len() - n);
-                note(b" saved, ");
+                put_count(out, Stream::Error, src.len() - n);
+                note(out, b" saved, ");
             }
-            put_count(STDERR_FILENO, n);
-            note(b" left\n");
+            put_count(out, Stream::Error, n);
+            note(out, b" left\n");
             Status::Answered
         }
     }
 }
 
-pub fn decode(src: &[u8]) -> Status {
+pub fn decode(out: &mut Out, src: &[u8]) -> Status {
     match VarInt::decode(src) {
         Decoded::Value(x, n) => {
-            say_number(x);
-            say(b" (");
-            put_count(STDOUT_FILENO, n);
-            say(b")\n");
+            say_number(out, x);
+            say(out, b" (");
+            put_count(out, Stream::Output, n);
+            say(out, b")\n");
             Status::Answered
         }
-        Decoded::Refused(r) => refused(r),
+        Decoded::Refused(r) => refused(out, r),
     }
 }
 
-pub fn encode(x: u64) -> Status {
-    let mut out = [0u8; 8];
-    let stored = VarInt(x).encode(&mut out);
-    say_stored(stored, &out)
+pub fn encode(out: &mut Out, x: u64) -> Status {
+    let mut bytes = [0u8; 8];
+    let stored = VarInt(x).encode(&mut bytes);
+    say_stored(out, stored, &bytes)
 }

@@ -1,10 +1,11 @@
 // What --help says, and the usage.
 use crate::Status;
-use text::out::{note, say};
+use text::out::{Out, Stream, note, put, say};
 
-fn usage(fd: i32) {
-    io::write_all(
-        fd,
+fn usage(out: &mut Out, to: Stream) {
+    put(
+        out,
+        to,
         b"yuthpram: the transport parameter extension of QUIC. SIDE is client or server: the side that reads it
   yuthpram read SIDE [HEX]             show what an extension says to SIDE
   yuthpram tidy SIDE [HEX]             write it anew in its shortest form
@@ -22,19 +23,20 @@ fn usage(fd: i32) {
 }
 
 // A complaint about words that no command takes.
-pub fn misused(what: &[u8]) -> Status {
-    note(what);
-    usage(libc::STDERR_FILENO);
+pub fn misused(out: &mut Out, what: &[u8]) -> Status {
+    note(out, what);
+    usage(out, Stream::Error);
     Status::Misused
 }
 
-pub fn note_surplus() -> Status {
-    misused(b"yuthpram: a word too many\n")
+pub fn note_surplus(out: &mut Out) -> Status {
+    misused(out, b"yuthpram: a word too many\n")
 }
 
-pub fn say_help() -> Status {
-    usage(libc::STDOUT_FILENO);
+pub fn say_help(out: &mut Out) -> Status {
+    usage(out, Stream::Output);
     say(
+        out,
         b"
 HEX may have spaces and colons in it. Without HEX, FILE or PLACE, standard input is read; --raw in the place of HEX takes the bytes of standard
 input as they are. An extension, and a record in text form, may have 65536 bytes. The entries of an order are decimal, at most 255 of
