@@ -19,7 +19,7 @@ use Rattle.record.specs.Record.{default_record}
 use Rattle.order.specs.Order.{permutation}
 use Rattle.catalogue.specs.Catalogue.{places}
 use Rattle.building.specs.declared.Settings.{Settings}
-use Rattle.refusal.specs.declared.Answer.TheVariants.{Accepted, Refused}
+use Rattle.refusal.specs.declared.Answer.TheVariants.{Refused}
 use Rattle.building.specs.declared.Built.{Built}
 use Rattle.building.specs.Building.{settings_fit, draw_fits, reserved_from, order_from, record_from, build}
 use Rattle.refusal.specs.Answer.{answer_outcome, settled_by}

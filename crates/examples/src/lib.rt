@@ -1,1 +1,3 @@
+#![tactic(auto)]
+
 // The worked examples (a) to (n), as one proved list: specs/Examples.antt, with the theorem in proofs/Theorem.antt.

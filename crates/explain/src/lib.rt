@@ -42,17 +42,9 @@ refused 9: a drawn value is out of range";
     note_line(out, refusals, r.number() as usize);
 }
 
-// The same side once more.
-pub fn same_side(side: &Side) -> Side {
-    match side {
-        Side::Client => Side::Client,
-        Side::Server => Side::Server,
-    }
-}
-
 // Whether an extension is refused.
-fn is_broken(side: &Side, src: &[u8]) -> bool {
-    let entries = index::index(same_side(side), src);
+fn is_broken(side: Side, src: &[u8]) -> bool {
+    let entries = index::index(side, src);
     let found = entries.found;
     match found {
         Scanned::Marks(_) => false,
@@ -61,7 +53,7 @@ fn is_broken(side: &Side, src: &[u8]) -> bool {
 }
 
 // Whether a parameter may be the one that breaks a value rule: it does so by itself, or is min_ack_delay, which is held to max_ack_delay.
-fn is_suspect(side: &Side, place: usize, parameter: &[u8]) -> bool {
+fn is_suspect(side: Side, place: usize, parameter: &[u8]) -> bool {
     if place == MIN_ACK_DELAY {
         return true;
     }
@@ -92,7 +84,7 @@ fn front_at(src: &[u8], at: usize) -> Front
 
 // The culprit of an extension that is refused: the first fault from the front, as reading finds it. If there is none, a value rule is broken:
 // by the first parameter that breaks one by itself, or else by min_ack_delay.
-fn locate(side: &Side, src: &[u8]) -> Culprit {
+fn locate(side: Side, src: &[u8]) -> Culprit {
     let mut met: u32 = 0;
     let mut is_found = false;
     let mut rule_at: usize = 0;
@@ -136,7 +128,7 @@ fn locate(side: &Side, src: &[u8]) -> Culprit {
 }
 
 // What is wrong with a parameter, by its line of the causes: a second copy, a rule that its value breaks, or a value that does not fit its length.
-fn cause(side: &Side, fault: Fault, place: usize) -> usize {
+fn cause(side: Side, fault: Fault, place: usize) -> usize {
     match fault {
         Fault::SecondCopy => 0,
         Fault::Illegal => match place {
@@ -162,7 +154,7 @@ fn cause(side: &Side, fault: Fault, place: usize) -> usize {
 }
 
 // Which parameter it is, and what is wrong with it.
-fn note_cause(out: &mut Out, side: &Side, c: Culprit) {
+fn note_cause(out: &mut Out, side: Side, c: Culprit) {
     let fault = c.fault;
     let id = c.id;
     let place = catalogue::place_of(id);
@@ -189,22 +181,23 @@ a client may not send it";
 
 // A refusal of reading, and its cause.
 pub fn note_reading(out: &mut Out, side: Side, r: Refusal, src: &[u8]) {
-    let c = locate(&side, src);
+    let c = locate(side, src);
+    let fault = c.fault;
     note_refusal(out, r);
     note(out, b"at byte ");
     note_number(out, c.at as u64);
-    if let Fault::Cut = &c.fault {
+    if let Fault::Cut = fault {
         note(out, b": the input ends within this parameter\n");
         return;
     }
     note(out, b", ");
-    note_cause(out, &side, c);
+    note_cause(out, side, c);
 }
 
 // The cause alone, of a record's extension. If the extension is accepted, no value rule is broken: then a family that is given is all zero.
 pub fn note_culprit(out: &mut Out, side: Side, src: &[u8]) {
-    if is_broken(&side, src) {
-        note_cause(out, &side, locate(&side, src));
+    if is_broken(side, src) {
+        note_cause(out, side, locate(side, src));
     } else {
         note(out, b"preferred_address: a family of zeros and port 0\n");
     }

@@ -1,13 +1,13 @@
 -- What the index keeps agrees with the values that reading collects. Assumes nothing.
 --     Agrees       by place: met, the number, the value
 --     simulate     going through an extension and reading it stop at the same fault, or agree
-use Prim.Native.Nat.{ℕ, zero, suc, ◌+◌, ◌-◌, ◌%◌, ◌≤◌, ◌<◌}
-use mathlib.Core.Path.{◌≡◌, refl, ap, sym, ◌∙◌, subst}
+use Prim.Native.Nat.{ℕ, zero, suc, ◌-◌, ◌%◌, ◌≤◌, ◌<◌}
+use mathlib.Core.Path.{◌≡◌, refl, ap, sym, ◌∙◌}
 use mathlib.Core.List.{List, [], ◌∷◌}
-use mathlib.Core.Option.{none, some}
+use mathlib.Core.Option.{some}
 use mathlib.Core.Bool.{Bool, true, false}
 use native.Mathlib.Omega.{arith}
-use lib.ListN.{length, get_or, take, drop, set, length-drop, drop_of_length-le}
+use lib.ListN.{length, get_or, drop, set, length-drop, drop_of_length-le}
 use lib.Seq.{get_or-set_same, get_or-set_other}
 use lib.Dec.{eqb, ltb}
 use borrow.Author.Tests.{eqb-true, eqb-false, ltb-true, ltb-false}
@@ -24,7 +24,7 @@ use Rattle.value.specs.Value.{kept_of, check_kind, receive_value}
 use Rattle.value.proofs.Checks.{taken}
 use Rattle.index.specs.Index.{Found, nothing, keep, note, between, index_in, index_from, Sound}
 use Rattle.index.proofs.Sound.{initial_at, start_sound, keep_sound, start_kept, length_kept}
-use Rattle.reader.specs.Reading.{receive, step, parse_in, parse}
+use Rattle.reader.specs.Reading.{receive, step, parse}
 use Rattle.reader.specs.Kept.{value_at}
 use Rattle.reader.proofs.Run.{parse_nil, parse_front, upd_here, upd_there}
 

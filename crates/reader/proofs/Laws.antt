@@ -27,8 +27,8 @@ use Rattle.front.specs.declared.Fault.TheVariants.{Illegal}
 use Rattle.front.specs.Answer.{numbered}
 use Rattle.front.specs.Parameter.{read_parameter}
 use Rattle.reader.specs.Reading.{step, parse_in, parse, judge, read}
-use Rattle.front.specs.Whole.{Whole, Inserted, concat, Wholes, Composed, Stuffed}
-use Rattle.front.proofs.Split.{CutOut, cut_out_lem, same_front, not_empty}
+use Rattle.front.specs.Whole.{concat, Wholes, Composed, Stuffed}
+use Rattle.front.proofs.Split.{cut_out_lem, same_front, not_empty}
 use Rattle.reader.proofs.Run.{parse_nil, parse_whole, skipped}
 use Rattle.reader.proofs.Grow.{grown}
 

@@ -7,7 +7,7 @@ use native.Mathlib.Omega.{arith}
 use lib.ListN.{length, get_or, take, drop, get_or-eq_default}
 use lib.Dec.{ltb}
 use borrow.Author.Tests.{lt-ltb, le-ltb}
-use Rattle.refusal.specs.Outcome.{Outcome, accepted, refused, pick}
+use Rattle.refusal.specs.Outcome.{Outcome, pick}
 use Rattle.refusal.specs.Number.{number_of}
 use Rattle.refusal.specs.Answer.{answer_outcome, value_or, settled_by}
 use Rattle.refusal.specs.declared.Refusal.{Refusal}

@@ -2,7 +2,7 @@
 use crate::Status;
 use crate::input::first;
 use catalogue::{MAX_EXTENSION, PLACES};
-use explain::{note_culprit, note_order_fault, note_reading, note_refusal, same_side};
+use explain::{note_culprit, note_order_fault, note_reading, note_refusal};
 use image::RECORD_SIZE;
 use order::OrderFault;
 use record::TransportParameters;
@@ -42,7 +42,7 @@ fn note_length(out: &mut Out, record: &[u8]) {
 
 // Reads an extension, and shows it or only tells that it is accepted.
 pub fn read(out: &mut Out, side: Side, src: &[u8], is_shown: bool) -> Status {
-    let reading = reader::read(same_side(&side), src);
+    let reading = reader::read(side, src);
     let answer = reading.answer;
     if let Answer::Refused(r) = answer {
         return unread(out, side, r, src);
@@ -125,9 +125,8 @@ pub fn length(out: &mut Out, text: &[u8]) -> Status {
 
 // What is wrong with a record that is resumed to, or with the remembered one.
 fn unresumed(out: &mut Out, r: Refusal, record: &[u8], cached: &[u8]) -> Status {
-    let is_reduced = matches!(&r, Refusal::LimitReduced);
     note_refusal(out, r);
-    if is_reduced {
+    if let Refusal::LimitReduced = r {
         note_reduced(out, record, cached);
     } else if let Counted::Refused(_) = by_image::length(cached) {
         note(out, b"it is the remembered one\n");
@@ -161,13 +160,12 @@ fn check_record(out: &mut Out, side: Side, text: &[u8]) -> Status {
     if !form::fill(out, text, &mut record) {
         return Status::Misused;
     }
-    let Answer::Refused(r) = by_image::check(&record, same_side(&side)) else {
+    let Answer::Refused(r) = by_image::check(&record, side) else {
         say(out, b"legal\n");
         return Status::Answered;
     };
-    let is_illegal = matches!(&r, Refusal::IllegalValue);
     refused(out, r);
-    if is_illegal {
+    if let Refusal::IllegalValue = r {
         note_rule(out, side, &record);
     }
     Status::Refused
@@ -183,7 +181,7 @@ pub fn check(out: &mut Out, side: Side, bytes: &[u8], is_record: bool) -> Status
 
 pub fn tidy(out: &mut Out, side: Side, src: &[u8]) -> Status {
     let mut bytes = [0u8; MAX_EXTENSION];
-    let stored = tidy::tidy(same_side(&side), src, &mut bytes);
+    let stored = tidy::tidy(side, src, &mut bytes);
     match stored {
         Counted::Refused(r) => unread(out, side, r, src),
         Counted::Count(n) => {

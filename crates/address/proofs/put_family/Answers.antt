@@ -7,7 +7,6 @@ use mathlib.Core.List.{◌++◌}
 use Rattle.refusal.specs.Outcome.{front}
 use Rattle.words.specs.Words.{bytes_of}
 use Rattle.address.proofs.Address.{family_stored}
-use borrow.Author.Rules.{rules}
 use Rattle.address.proofs.put_family.Goals as goal
 
 pub bounds-out-n : goal.bounds-out-n

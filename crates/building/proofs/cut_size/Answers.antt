@@ -1,6 +1,5 @@
 -- `building::cut_size` meets its contract. Assumes nothing.
 use Rattle.building.specs.Building.{cut_size}
-use borrow.Author.Rules.{rules}
 use Rattle.building.proofs.cut_size.Goals as goal
 
 pub returns-in-Absent : goal.returns-in-Absent

@@ -1,7 +1,6 @@
 -- `building::draw_fits` meets its contract. Assumes nothing.
 use Rattle.building.proofs.Answers.{below_sixteen}
 use Rattle.building.specs.Building.{draw_fits}
-use borrow.Author.Rules.{rules}
 use Rattle.building.proofs.draw_fits.Goals as goal
 
 pub returns : goal.returns

@@ -6,7 +6,6 @@ use Rattle.order.specs.Order.{permutation}
 use Rattle.connection_id.specs.ConnectionId.{formed_cid}
 use mathlib.Core.Bool.{true}
 use mathlib.Core.Path.{◌≡◌, ◌∙◌, ap₂}
-use borrow.Author.Rules.{rules}
 use Rattle.building.proofs.new.Goals as goal
 
 pub returns-then-not-settings_fit : goal.returns-then-not-settings_fit

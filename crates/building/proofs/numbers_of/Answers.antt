@@ -1,7 +1,6 @@
 -- `building::numbers_of` meets its contract. Assumes nothing.
 use Rattle.catalogue.specs.Catalogue.{defaults}
 use Rattle.building.specs.Building.{numbers_from}
-use borrow.Author.Rules.{rules}
 use Rattle.building.proofs.numbers_of.Goals as goal
 
 pub returns : goal.returns

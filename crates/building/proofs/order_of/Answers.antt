@@ -4,10 +4,10 @@ use mathlib.Core.Path.{◌∙◌, ◌≡◌}
 use mathlib.Core.List.{◌++◌, append-nil}
 use Rattle.building.specs.Building.{order_from}
 use Rattle.connection_id.proofs.Copy.{copied, copied_all}
-use lib.Seq.{paste, paste-zero}
+use lib.Seq.{paste-zero}
 use lib.ListN.{length, replicate}
 use native.Mathlib.Omega.{arith}
-use Prim.Native.Nat.{◌≤◌, ◌-◌}
+use Prim.Native.Nat.{◌-◌}
 use Rattle.building.proofs.order_of.Goals as goal
 
 pub loop-i-init : goal.loop-i-init

@@ -1,8 +1,6 @@
 -- `building::record_of` meets its contract. Assumes nothing.
-use mathlib.Core.Path.{◌∙◌}
 use Rattle.record.specs.Values.{no_values, record_of}
 use Rattle.building.specs.Building.{record_from, id_limit}
-use borrow.Author.Rules.{rules}
 use Rattle.building.proofs.record_of.Goals as goal
 
 pub returns : goal.returns

@@ -1,5 +1,4 @@
 -- `building::refuse` meets its contract. Assumes nothing.
-use borrow.Author.Rules.{rules}
 use Rattle.building.proofs.refuse.Goals as goal
 
 pub returns : goal.returns

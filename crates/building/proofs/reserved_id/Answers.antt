@@ -1,7 +1,6 @@
 -- `building::reserved_id` meets its contract. Assumes nothing.
 use mathlib.Core.Path.{refl}
 use Rattle.building.specs.Building.{reserved_id}
-use borrow.Author.Rules.{rules}
 use Rattle.building.proofs.reserved_id.Goals as goal
 
 pub returns : goal.returns

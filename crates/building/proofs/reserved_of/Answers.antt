@@ -1,11 +1,9 @@
 -- `building::reserved_of` meets its contract. The invariant: the first `i` bytes stand over zeros. Assumes nothing.
 use Rattle.building.specs.Building.{reserved_from}
 use Rattle.connection_id.proofs.Copy.{copied, copied_all}
-use lib.Seq.{paste, paste-zero}
-use lib.ListN.{length, replicate}
-use mathlib.Core.Path.{◌≡◌}
+use lib.Seq.{paste-zero}
+use lib.ListN.{replicate}
 use native.Mathlib.Omega.{arith}
-use Prim.Native.Nat.{◌≤◌, ◌-◌}
 use Rattle.building.proofs.reserved_of.Goals as goal
 
 pub loop-i-init : goal.loop-i-init

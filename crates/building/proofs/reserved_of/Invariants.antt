@@ -1,10 +1,7 @@
 -- `building::reserved_of` meets its contract. The invariant: the first `i` bytes stand over zeros. Assumes nothing.
-use Rattle.building.specs.Building.{reserved_from}
-use Rattle.connection_id.proofs.Copy.{copied, copied_all}
-use lib.Seq.{paste, paste-zero}
+use lib.Seq.{paste}
 use lib.ListN.{length, replicate}
 use mathlib.Core.Path.{◌≡◌}
-use native.Mathlib.Omega.{arith}
 use Prim.Native.Nat.{◌≤◌, ◌-◌}
 use Rattle.building.proofs.reserved_of.Given as goal
 

@@ -2,7 +2,6 @@
 use Rattle.record.proofs.Tests.{at_most}
 use Rattle.words.proofs.Laws.{and-true}
 use Rattle.building.specs.Building.{settings_fit, sent_settings}
-use borrow.Author.Rules.{rules}
 use Rattle.building.proofs.settings_fit.Goals as goal
 
 pub returns : goal.returns

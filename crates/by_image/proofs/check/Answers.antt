@@ -2,7 +2,6 @@
 use Rattle.rules.specs.Rules.{check_record}
 use Rattle.by_image.specs.ByImage.{image_check}
 use Rattle.by_image.proofs.Answers.{then_done, then_refused}
-use borrow.Author.Rules.{rules}
 use Rattle.by_image.proofs.check.Goals as goal
 
 pub returns-in-Accepted : goal.returns-in-Accepted

@@ -2,7 +2,6 @@
 use Rattle.writer.specs.Writing.{length_of}
 use Rattle.by_image.specs.ByImage.{image_length}
 use Rattle.by_image.proofs.Answers.{then_done, then_refused}
-use borrow.Author.Rules.{rules}
 use Rattle.by_image.proofs.length.Goals as goal
 
 pub returns-in-Accepted : goal.returns-in-Accepted

@@ -1,7 +1,6 @@
 -- `by_image::read` meets its contract. Assumes nothing.
 use Rattle.by_image.specs.ByImage.{record_store, image_read}
 use Rattle.by_image.proofs.Answers.{then_stored, then_kept}
-use borrow.Author.Rules.{rules}
 use Rattle.by_image.proofs.read.Goals as goal
 
 pub returns-in-Accepted : goal.returns-in-Accepted

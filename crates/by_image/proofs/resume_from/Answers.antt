@@ -2,7 +2,6 @@
 use Rattle.resumption.specs.Resumption.{resume}
 use Rattle.by_image.specs.ByImage.{resume_from}
 use Rattle.by_image.proofs.Answers.{then_done, then_refused}
-use borrow.Author.Rules.{rules}
 use Rattle.by_image.proofs.resume_from.Goals as goal
 
 pub returns-in-Accepted : goal.returns-in-Accepted

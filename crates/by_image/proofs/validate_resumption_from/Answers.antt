@@ -1,7 +1,6 @@
 -- `by_image::validate_resumption_from` meets its contract. Assumes nothing.
 use Rattle.by_image.specs.ByImage.{resume_from, image_resume}
 use Rattle.by_image.proofs.Answers.{then_done, then_refused}
-use borrow.Author.Rules.{rules}
 use Rattle.by_image.proofs.validate_resumption_from.Goals as goal
 
 pub returns-in-Accepted : goal.returns-in-Accepted

@@ -2,7 +2,6 @@
 use Rattle.writer.specs.Writing.{write}
 use Rattle.by_image.specs.ByImage.{image_write}
 use Rattle.by_image.proofs.Answers.{then_stored, then_kept}
-use borrow.Author.Rules.{rules}
 use Rattle.by_image.proofs.write.Goals as goal
 
 pub returns-in-Accepted : goal.returns-in-Accepted

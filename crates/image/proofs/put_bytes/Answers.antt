@@ -1,8 +1,7 @@
 -- `image::put_bytes` meets its contract. The invariant: the first `i` bytes are stored. Assumes nothing.
-use Prim.Native.Nat.{◌≤◌, ◌-◌}
 use native.Mathlib.Omega.{arith}
-use mathlib.Core.Path.{◌≡◌, refl, ap, ◌∙◌}
-use lib.ListN.{length, take, length-set}
+use mathlib.Core.Path.{refl, ap, ◌∙◌}
+use lib.ListN.{length-set}
 use lib.Seq.{sets, take_all}
 use Rattle.image.proofs.Places.{one_more}
 use Rattle.image.proofs.put_bytes.Goals as goal

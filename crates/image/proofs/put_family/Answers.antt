@@ -2,7 +2,6 @@
 use native.Mathlib.Omega.{arith}
 use lib.ListN.{length-set}
 use Rattle.image.proofs.Stores.{family_stored}
-use borrow.Author.Rules.{rules}
 use Rattle.image.proofs.put_family.Goals as goal
 
 pub bounds-out-end-2 : goal.bounds-out-end-2

@@ -5,7 +5,6 @@ use lib.ListN.{length-set}
 use Rattle.image.proofs.Stores.{byte, put, behind, done, laid, eight, numbers_size}
 use Rattle.record.specs.Record.{least}
 use Rattle.image.specs.Image.{front_parts}
-use borrow.Author.Rules.{rules}
 use Rattle.image.proofs.put_front.Goals as goal
 
 pub bounds-out-89 : goal.bounds-out-89

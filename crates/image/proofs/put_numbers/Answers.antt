@@ -1,12 +1,9 @@
 -- `image::put_numbers` meets its contract. Assumes nothing.
-use Prim.Native.Nat.{◌≤◌, ◌-◌}
 use native.Mathlib.Omega.{arith}
-use mathlib.Core.Path.{◌≡◌, refl, ap, ◌∙◌}
-use lib.ListN.{length, take}
+use mathlib.Core.Path.{refl, ap, ◌∙◌}
 use lib.Seq.{sets, take_all}
 use Rattle.image.specs.Image.{eight_bytes, numbers_image}
 use Rattle.image.proofs.Stores.{numbers_more}
-use borrow.Author.Rules.{rules}
 use Rattle.image.proofs.put_numbers.Goals as goal
 
 pub loop-i-init : goal.loop-i-init

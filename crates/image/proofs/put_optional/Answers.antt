@@ -1,7 +1,6 @@
 -- `image::put_optional` meets its contract. Assumes nothing.
 use mathlib.Core.Path.{◌∙◌}
 use Rattle.image.specs.Image.{eight_bytes}
-use borrow.Author.Rules.{rules}
 use Rattle.image.proofs.put_optional.Goals as goal
 
 pub returns : goal.returns

@@ -3,7 +3,6 @@ use native.Mathlib.Omega.{arith}
 use mathlib.Core.Path.{refl}
 use lib.ListN.{replicate}
 use Rattle.imaged.proofs.Places.{bytes_part}
-use borrow.Author.Rules.{rules}
 use Rattle.imaged.proofs.bytes20_at.Goals as goal
 
 pub returns : goal.returns

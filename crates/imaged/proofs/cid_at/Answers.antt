@@ -1,6 +1,5 @@
 -- `imaged::cid_at` meets its contract. Assumes nothing.
 use Rattle.image.specs.Image.{cid_at}
-use borrow.Author.Rules.{rules}
 use Rattle.imaged.proofs.cid_at.Goals as goal
 
 pub returns : goal.returns

@@ -1,7 +1,6 @@
 -- `imaged::cid_from` meets its contract. Assumes nothing.
 use Rattle.image.specs.Image.{cid_from}
 use borrow.Author.Tests.{ne_eqb, eq-eqb}
-use borrow.Author.Rules.{rules}
 use Rattle.imaged.proofs.cid_from.Goals as goal
 
 pub returns-then-image-ne-CID_SIZE : goal.returns-then-image-ne-CID_SIZE

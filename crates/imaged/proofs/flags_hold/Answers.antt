@@ -1,9 +1,8 @@
 -- `imaged::flags_hold` meets its contract. The invariant: what was met and what is left to test decide. Assumes nothing.
-use Prim.Native.Nat.{◌≤◌, ◌-◌}
 use native.Mathlib.Omega.{arith}
-use mathlib.Core.Path.{◌≡◌, sym, ◌∙◌}
-use Rattle.image.specs.Image.{flags_hold, flag_places}
-use Rattle.imaged.proofs.Places.{flags_from, flag_place, flags_more, flags_none, flags_all}
+use mathlib.Core.Path.{sym, ◌∙◌}
+use Rattle.image.specs.Image.{flag_places}
+use Rattle.imaged.proofs.Places.{flag_place, flags_more, flags_none, flags_all}
 use Rattle.imaged.proofs.flags_hold.Goals as goal
 
 pub loop-i-init : goal.loop-i-init

@@ -1,9 +1,8 @@
 -- `imaged::flags_hold` meets its contract. The invariant: what was met and what is left to test decide. Assumes nothing.
 use Prim.Native.Nat.{◌≤◌, ◌-◌}
-use native.Mathlib.Omega.{arith}
-use mathlib.Core.Path.{◌≡◌, sym, ◌∙◌}
-use Rattle.image.specs.Image.{flags_hold, flag_places}
-use Rattle.imaged.proofs.Places.{flags_from, flag_place, flags_more, flags_none, flags_all}
+use mathlib.Core.Path.{◌≡◌}
+use Rattle.image.specs.Image.{flags_hold}
+use Rattle.imaged.proofs.Places.{flags_from}
 use Rattle.imaged.proofs.flags_hold.Given as goal
 
 abbrev pub invariant-loop-i : goal.invariant-loop-i

@@ -3,7 +3,6 @@ use borrow.Author.Tests.{ne_eqb, eq-eqb}
 use Rattle.refusal.specs.Outcome.{all}
 use Rattle.words.proofs.Laws.{and-true}
 use Rattle.image.specs.Image.{is_image}
-use borrow.Author.Rules.{rules}
 use Rattle.imaged.proofs.is_image.Goals as goal
 
 pub returns-then-s-ne-RECORD_SIZE : goal.returns-then-s-ne-RECORD_SIZE

@@ -2,7 +2,6 @@
 use native.Mathlib.Omega.{arith}
 use mathlib.Core.Path.{◌∙◌}
 use Rattle.imaged.proofs.Places.{number_eight}
-use borrow.Author.Rules.{rules}
 use Rattle.imaged.proofs.number_at.Goals as goal
 
 pub returns : goal.returns

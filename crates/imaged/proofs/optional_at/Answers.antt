@@ -1,7 +1,6 @@
 -- `imaged::optional_at` meets its contract. Assumes nothing.
 use mathlib.Core.Path.{sym, ◌∙◌}
 use Rattle.image.specs.Image.{optional_at}
-use borrow.Author.Rules.{rules}
 use Rattle.imaged.proofs.optional_at.Goals as goal
 
 pub returns-then-flag_at : goal.returns-then-flag_at

@@ -1,6 +1,5 @@
 -- `imaged::optional_cid_at` meets its contract. Assumes nothing.
 use Rattle.image.specs.Image.{optional_cid_at}
-use borrow.Author.Rules.{rules}
 use Rattle.imaged.proofs.optional_cid_at.Goals as goal
 
 pub returns : goal.returns

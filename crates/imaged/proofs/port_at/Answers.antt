@@ -2,7 +2,6 @@
 use native.Mathlib.Omega.{arith}
 use mathlib.Core.Path.{◌∙◌}
 use Rattle.imaged.proofs.Places.{number_two}
-use borrow.Author.Rules.{rules}
 use Rattle.imaged.proofs.port_at.Goals as goal
 
 pub returns : goal.returns

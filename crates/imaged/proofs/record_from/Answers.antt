@@ -1,10 +1,8 @@
 -- `imaged::record_from` meets its contract. Assumes nothing.
 use native.Mathlib.Omega.{arith}
 use mathlib.Core.Path.{sym, ◌∙◌}
-use borrow.Author.Tests.{not-true, not-false}
 use Rattle.imaged.proofs.Places.{image_long}
 use Rattle.image.specs.Image.{record_from}
-use borrow.Author.Rules.{rules}
 use Rattle.imaged.proofs.record_from.Goals as goal
 
 pub returns-then-not-is_image : goal.returns-then-not-is_image

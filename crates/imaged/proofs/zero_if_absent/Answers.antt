@@ -1,6 +1,5 @@
 -- `imaged::zero_if_absent` meets its contract. Assumes nothing.
 use Rattle.image.specs.Image.{zero_if_absent}
-use borrow.Author.Rules.{rules}
 use Rattle.imaged.proofs.zero_if_absent.Goals as goal
 
 pub returns : goal.returns

@@ -1,7 +1,5 @@
 -- `laying::from` meets its contract. Assumes nothing.
 use borrow.Author.Tests.{lt-ltb, le-ltb}
-use mathlib.Core.Path.{sym}
-use borrow.Author.Rules.{rules}
 use Rattle.laying.proofs.from.Goals as goal
 
 pub returns-then-x-limit : goal.returns-then-x-limit

@@ -1,6 +1,5 @@
 -- `laying::is_field` meets its contract. Assumes nothing.
 use mathlib.Core.Path.{refl}
-use borrow.Author.Rules.{rules}
 use Rattle.laying.proofs.is_field.Goals as goal
 
 pub returns : goal.returns

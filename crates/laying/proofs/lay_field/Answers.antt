@@ -4,11 +4,9 @@ use Prim.Native.Nat.{◌+◌, ◌≤◌}
 use mathlib.Core.Path.{◌≡◌, ap, sym, ◌∙◌}
 use mathlib.Core.Bool.{true}
 use lib.ListN.{length}
-use borrow.Author.Tests.{not-true, not-false}
 use Rattle.wire.proofs.Put.{stored}
 use Rattle.wire.proofs.Stored.{lent, behind, length_front}
 use Rattle.laying.proofs.Wide.{stays, is_field, Field, field, field_off, no_field, field_beyond, field_short, field_widely, wide_room}
-use borrow.Author.Rules.{rules}
 use Rattle.laying.proofs.lay_field.Goals as goal
 
 pub returns-then-not-due : goal.returns-then-not-due

@@ -6,7 +6,6 @@ use lib.ListN.{length}
 use Rattle.wire.proofs.Put.{number_size_lem}
 use Rattle.wire.proofs.Stored.{lent, behind}
 use Rattle.laying.proofs.Wide.{stays, number_widely, wide_room}
-use borrow.Author.Rules.{rules}
 use Rattle.laying.proofs.lay_long.Goals as goal
 
 pub put_wide-a-requires : goal.put_wide-a-requires

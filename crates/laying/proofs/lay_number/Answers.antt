@@ -1,8 +1,6 @@
 -- `laying::lay_number` meets its contract. Assumes nothing.
 use native.Mathlib.Omega.{arith}
-use borrow.Author.Tests.{not-true, not-false}
 use Rattle.laying.proofs.Wide.{number_off, number_short, id_beyond, number_beyond}
-use borrow.Author.Rules.{rules}
 use Rattle.laying.proofs.lay_number.Goals as goal
 
 pub returns-then-not-due : goal.returns-then-not-due

@@ -1,11 +1,9 @@
 -- `laying::lay_short` meets its contract. Assumes nothing.
 use native.Mathlib.Omega.{arith}
 use lib.ListN.{length-set}
-use mathlib.Core.Path.{◌∙◌}
 use Rattle.wire.proofs.Put.{number_size_lem}
-use Rattle.wire.proofs.Stored.{lent, back, behind}
-use Rattle.laying.proofs.Wide.{stays, number_shortly, wide_room}
-use borrow.Author.Rules.{rules}
+use Rattle.wire.proofs.Stored.{behind}
+use Rattle.laying.proofs.Wide.{number_shortly}
 use Rattle.laying.proofs.lay_short.Goals as goal
 
 pub put_wide-n-requires : goal.put_wide-n-requires

@@ -4,7 +4,6 @@ use Rattle.words.proofs.Copied.{copied_whole}
 use Rattle.varint.proofs.Bytes.{tag_le, tag_room}
 use Rattle.laying.proofs.Wide.{wide_stored}
 use mathlib.Core.Path.{refl, ◌∙◌}
-use borrow.Author.Rules.{rules}
 use Rattle.laying.proofs.put_wide.Goals as goal
 
 pub wide_form-requires : goal.wide_form-requires

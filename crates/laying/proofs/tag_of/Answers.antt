@@ -2,7 +2,6 @@
 use native.Mathlib.Omega.{arith}
 use lib.Dec.{ltb}
 use Rattle.laying.proofs.Wide.{tag_sum, at_most_one}
-use borrow.Author.Rules.{rules}
 use Rattle.laying.proofs.tag_of.Goals as goal
 
 pub overflow_add-result : goal.overflow_add-result

@@ -1,7 +1,6 @@
 -- `laying::wide_form` meets its contract. Assumes nothing.
 use native.Mathlib.Omega.{arith}
-use Rattle.laying.proofs.Wide.{Bits, bits, wide_bytes}
-use borrow.Author.Rules.{rules}
+use Rattle.laying.proofs.Wide.{bits, wide_bytes}
 use Rattle.laying.proofs.wide_form.Goals as goal
 
 pub overflow_sub-result : goal.overflow_sub-result

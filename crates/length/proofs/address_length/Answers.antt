@@ -1,6 +1,5 @@
 -- `length::address_length` meets its contract. Assumes nothing.
 use Rattle.catalogue.specs.Catalogue.{ids, id_at}
-use borrow.Author.Rules.{rules}
 use Rattle.length.proofs.address_length.Goals as goal
 
 pub returns : goal.returns

@@ -1,5 +1,4 @@
 -- `length::cid_length` meets its contract. Assumes nothing.
-use borrow.Author.Rules.{rules}
 use Rattle.length.proofs.cid_length.Goals as goal
 
 pub returns : goal.returns

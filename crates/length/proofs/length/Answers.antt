@@ -1,7 +1,6 @@
 -- `length::length` meets its contract. Assumes nothing.
 use Rattle.std.proofs.Common.{ap, not}
 use Rattle.length.proofs.Lengths.{not_measured, eleven, measured}
-use borrow.Author.Rules.{rules}
 use Rattle.length.proofs.length.Goals as goal
 
 pub returns-then-not-is_well_formed : goal.returns-then-not-is_well_formed

@@ -1,7 +1,6 @@
 -- `length::number_length` meets its contract. Assumes nothing.
 use native.Mathlib.Omega.{arith}
 use Rattle.wire.proofs.Put.{number_size_lem}
-use borrow.Author.Rules.{rules}
 use Rattle.length.proofs.number_length.Goals as goal
 
 pub value_length-requires : goal.value_length-requires

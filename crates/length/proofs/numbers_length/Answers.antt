@@ -1,12 +1,10 @@
 -- `length::numbers_length` meets its contract. The invariant: `n` is the sum below `p`. Assumes nothing.
-use Prim.Native.Nat.{◌≤◌, ◌-◌, ◌*◌}
 use native.Mathlib.Omega.{arith}
 use mathlib.Core.Path.{◌≡◌, refl}
 use Rattle.catalogue.specs.Catalogue.{ids, id_at, defaults}
 use Rattle.catalogue.specs.Sum.{sum}
 use Rattle.catalogue.proofs.Sums.{sum_more}
 use Rattle.length.specs.Length.{number_length_at}
-use borrow.Author.Rules.{rules}
 use Rattle.length.proofs.numbers_length.Goals as goal
 
 pub loop-p-init : goal.loop-p-init

@@ -1,5 +1,4 @@
 -- `length::optional_length` meets its contract. Assumes nothing.
-use borrow.Author.Rules.{rules}
 use Rattle.length.proofs.optional_length.Goals as goal
 
 pub returns : goal.returns

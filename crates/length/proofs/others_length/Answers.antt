@@ -2,7 +2,6 @@
 use native.Mathlib.Omega.{arith}
 use Rattle.catalogue.specs.Catalogue.{ids, id_at}
 use Rattle.length.specs.Length.{others_length}
-use borrow.Author.Rules.{rules}
 use Rattle.length.proofs.others_length.Goals as goal
 
 pub returns : goal.returns

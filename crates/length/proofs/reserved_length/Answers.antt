@@ -1,5 +1,4 @@
 -- `length::reserved_length` meets its contract. Assumes nothing.
-use borrow.Author.Rules.{rules}
 use Rattle.length.proofs.reserved_length.Goals as goal
 
 pub returns : goal.returns

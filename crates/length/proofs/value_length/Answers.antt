@@ -1,9 +1,7 @@
 -- `length::value_length` meets its contract. Assumes nothing.
 use native.Mathlib.Omega.{arith}
-use borrow.Author.Tests.{not-true, not-false}
 use Rattle.wire.proofs.Put.{number_size_lem}
 use Rattle.length.proofs.Lengths.{not_due, is_due}
-use borrow.Author.Rules.{rules}
 use Rattle.length.proofs.value_length.Goals as goal
 
 pub returns-then-not-due : goal.returns-then-not-due

@@ -1,9 +1,8 @@
 -- `reader::address_at` meets its contract. Assumes nothing.
-use mathlib.Core.Path.{◌≡◌, refl, sym, ◌∙◌}
+use mathlib.Core.Path.{sym, ◌∙◌}
 use native.Mathlib.Omega.{arith}
 use Rattle.reader.specs.Kept.{value_at}
 use Rattle.reader.proofs.Indexed.{lent}
-use borrow.Author.Rules.{rules}
 use Rattle.reader.proofs.address_at.Goals as goal
 
 pub overflow_add-end : goal.overflow_add-end

@@ -1,7 +1,6 @@
 -- `reader::address_in` meets its contract. Assumes nothing.
 use mathlib.Core.Bool.{false}
-use mathlib.Core.Path.{◌≡◌, refl, sym, ◌∙◌}
-use borrow.Author.Rules.{rules}
+use mathlib.Core.Path.{◌≡◌, ◌∙◌}
 use Rattle.reader.proofs.address_in.Goals as goal
 
 pub address_of-requires : goal.address_of-requires

@@ -1,10 +1,10 @@
 -- `reader::bytes16` meets its contract. The invariant: the first `i` bytes stand over zeros. Assumes nothing.
-use Prim.Native.Nat.{◌≤◌, ◌-◌}
+use Prim.Native.Nat.{◌-◌}
 use native.Mathlib.Omega.{arith}
 use mathlib.Core.Path.{◌≡◌, ◌∙◌}
 use mathlib.Core.List.{append-nil}
 use lib.ListN.{length, replicate}
-use lib.Seq.{paste, paste-zero}
+use lib.Seq.{paste-zero}
 use Rattle.connection_id.proofs.Copy.{copied, copied_all}
 use Rattle.reader.proofs.bytes16.Goals as goal
 

@@ -1,11 +1,8 @@
 -- `reader::bytes16` meets its contract. The invariant: the first `i` bytes stand over zeros. Assumes nothing.
 use Prim.Native.Nat.{◌≤◌, ◌-◌}
-use native.Mathlib.Omega.{arith}
-use mathlib.Core.Path.{◌≡◌, ◌∙◌}
-use mathlib.Core.List.{append-nil}
-use lib.ListN.{length, replicate}
-use lib.Seq.{paste, paste-zero}
-use Rattle.connection_id.proofs.Copy.{copied, copied_all}
+use mathlib.Core.Path.{◌≡◌}
+use lib.ListN.{replicate}
+use lib.Seq.{paste}
 use Rattle.reader.proofs.bytes16.Given as goal
 
 abbrev pub invariant-loop-i : goal.invariant-loop-i

@@ -1,10 +1,8 @@
 -- `reader::cid_in` meets its contract. Assumes nothing.
 use mathlib.Core.Bool.{false}
-use mathlib.Core.Path.{◌≡◌, refl, sym, ◌∙◌}
+use mathlib.Core.Path.{◌≡◌}
 use Rattle.record.specs.Values.{cid_in}
-use Rattle.words.proofs.Laws.{not-true, not-false}
 use Rattle.reader.proofs.Built.{cid_new}
-use borrow.Author.Rules.{rules}
 use Rattle.reader.proofs.cid_in.Goals as goal
 
 pub returns-then-not-present : goal.returns-then-not-present

@@ -4,7 +4,6 @@ use Rattle.index.specs.Index.{indexed}
 use Rattle.index.proofs.Settled.{stopped_is, marks_is}
 use Rattle.index.proofs.Sound.{sound}
 use Rattle.reader.proofs.Indexed.{read_stopped, read_kept}
-use borrow.Author.Rules.{rules}
 use Rattle.reader.proofs.read.Goals as goal
 
 pub record_of-parameters-requires : goal.record_of-parameters-requires

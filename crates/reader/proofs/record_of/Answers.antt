@@ -1,10 +1,9 @@
 -- `reader::record_of` meets its contract: field by field. Assumes nothing.
-use mathlib.Core.Path.{◌≡◌, refl, sym, ◌∙◌}
+use mathlib.Core.Path.{refl}
 use native.Mathlib.Omega.{arith}
 use Rattle.catalogue.specs.Catalogue.{cid, token, address, kind_at, kinds, other_kinds}
 use Rattle.reader.specs.Kept.{record_from}
 use Rattle.reader.proofs.Indexed.{kept_at, cid_no, token_no, address_no}
-use borrow.Author.Rules.{rules}
 use Rattle.reader.proofs.record_of.Goals as goal
 
 pub token_at-stateless_reset_token-requires : goal.token_at-stateless_reset_token-requires

@@ -1,5 +1,4 @@
 -- `reader::refuse` meets its contract. Assumes nothing.
-use borrow.Author.Rules.{rules}
 use Rattle.reader.proofs.refuse.Goals as goal
 
 pub returns : goal.returns

@@ -1,11 +1,10 @@
 -- `reader::token_at` meets its contract. Assumes nothing.
-use mathlib.Core.Path.{◌≡◌, refl, sym, ◌∙◌}
+use mathlib.Core.Path.{sym, ◌∙◌}
 use native.Mathlib.Omega.{arith}
 use borrow.Author.Tests.{eqb-true}
 use Rattle.catalogue.specs.Catalogue.{fits}
 use Rattle.reader.specs.Kept.{value_at}
 use Rattle.reader.proofs.Indexed.{lent}
-use borrow.Author.Rules.{rules}
 use Rattle.reader.proofs.token_at.Goals as goal
 
 pub overflow_add-end : goal.overflow_add-end

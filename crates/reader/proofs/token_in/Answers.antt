@@ -1,9 +1,7 @@
 -- `reader::token_in` meets its contract. Assumes nothing.
 use mathlib.Core.Bool.{false, true}
-use mathlib.Core.Path.{◌≡◌, refl, sym, ◌∙◌}
+use mathlib.Core.Path.{◌≡◌}
 use Rattle.record.specs.Values.{token_in}
-use Rattle.words.proofs.Laws.{not-true, not-false}
-use borrow.Author.Rules.{rules}
 use Rattle.reader.proofs.token_in.Goals as goal
 
 pub returns-then-not-present : goal.returns-then-not-present

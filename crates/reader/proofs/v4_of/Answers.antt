@@ -1,7 +1,6 @@
 -- `reader::v4_of` meets its contract. Assumes nothing.
 use Rattle.words.specs.Words.{elements}
 use Rattle.reader.proofs.Built.{v4_built}
-use borrow.Author.Rules.{rules}
 use Rattle.reader.proofs.v4_of.Goals as goal
 
 pub returns : goal.returns

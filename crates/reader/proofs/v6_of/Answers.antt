@@ -1,6 +1,5 @@
 -- `reader::v6_of` meets its contract. Assumes nothing.
 use Rattle.reader.proofs.Built.{v6_built}
-use borrow.Author.Rules.{rules}
 use Rattle.reader.proofs.v6_of.Goals as goal
 
 pub returns : goal.returns

@@ -5,7 +5,6 @@ use native.Mathlib.Omega.{arith}
 use borrow.Author.Tests.{eqb-true, eqb-false, ltb-true, ltb-false, leb-true, leb-false}
 use Rattle.resumption.specs.Resumption.{size_rank}
 use Rattle.resumption.proofs.Laws.{told, false≢true}
-use borrow.Author.Rules.{rules}
 use Rattle.resumption.proofs.at_least.Goals as goal
 
 pub returns-in-Absent : goal.returns-in-Absent

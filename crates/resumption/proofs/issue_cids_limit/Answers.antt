@@ -1,6 +1,5 @@
 -- `resumption::issue_cids_limit` meets its contract. Assumes nothing.
 use Rattle.resumption.specs.Resumption.{issue_limit}
-use borrow.Author.Rules.{rules}
 use Rattle.resumption.proofs.issue_cids_limit.Goals as goal
 
 pub returns : goal.returns

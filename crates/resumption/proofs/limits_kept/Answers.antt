@@ -1,7 +1,6 @@
 -- `resumption::limits_kept` meets its contract. Assumes nothing.
 use Rattle.words.proofs.Laws.{and-true}
 use Rattle.resumption.specs.Resumption.{limits_kept, remembered}
-use borrow.Author.Rules.{rules}
 use Rattle.resumption.proofs.limits_kept.Goals as goal
 
 pub returns : goal.returns

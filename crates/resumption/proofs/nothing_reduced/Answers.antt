@@ -2,7 +2,6 @@
 use Rattle.words.proofs.Laws.{and-true}
 use Rattle.refusal.specs.Outcome.{all}
 use Rattle.resumption.specs.Resumption.{nothing_reduced}
-use borrow.Author.Rules.{rules}
 use Rattle.resumption.proofs.nothing_reduced.Goals as goal
 
 pub returns : goal.returns

@@ -4,7 +4,6 @@ use mathlib.Core.Bool.{true≢false}
 use native.Mathlib.Omega.{arith}
 use Rattle.resumption.specs.Resumption.{size_rank}
 use Rattle.resumption.proofs.Laws.{told}
-use borrow.Author.Rules.{rules}
 use Rattle.resumption.proofs.size_kept.Goals as goal
 
 pub returns-in-Absent : goal.returns-in-Absent

@@ -1,7 +1,5 @@
 -- `resumption::validate_resumption_from` meets its contract. Assumes nothing.
-use borrow.Author.Tests.{not-true, not-false}
 use Rattle.resumption.specs.Resumption.{resume}
-use borrow.Author.Rules.{rules}
 use Rattle.resumption.proofs.validate_resumption_from.Goals as goal
 
 pub returns-then-not-and : goal.returns-then-not-and

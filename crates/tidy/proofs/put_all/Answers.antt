@@ -7,7 +7,6 @@ use Rattle.wire.specs.Stored.{each}
 use Rattle.wire.proofs.Stored.{length_each}
 use Rattle.writer.proofs.Laid.{laid_then, laid_within}
 use Rattle.tidy.specs.Pieces.{others, pieces}
-use borrow.Author.Rules.{rules}
 use Rattle.tidy.proofs.put_all.Goals as goal
 
 pub put_others-requires : goal.put_others-requires

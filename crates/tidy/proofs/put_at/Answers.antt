@@ -1,12 +1,10 @@
 -- `tidy::put_at` meets its contract. Assumes nothing.
 use native.Mathlib.Omega.{arith}
 use mathlib.Core.Path.{sym, ◌∙◌}
-use borrow.Author.Tests.{not-true, not-false}
 use Rattle.value.proofs.Checks.{not_number_at}
 use Rattle.reader.proofs.Indexed.{lent}
 use Rattle.tidy.specs.Pieces.{span_at}
 use Rattle.tidy.proofs.Pieces.{none_due, number_due, value_due}
-use borrow.Author.Rules.{rules}
 use Rattle.tidy.proofs.put_at.Goals as goal
 
 pub returns-then-not-is_marked : goal.returns-then-not-is_marked

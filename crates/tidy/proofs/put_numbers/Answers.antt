@@ -1,16 +1,13 @@
 -- `tidy::put_numbers` meets its contract. The invariant: the first `i` places are laid. Assumes nothing.
-use Prim.Native.Nat.{◌≤◌, ◌-◌}
 use native.Mathlib.Omega.{arith}
 use mathlib.Core.List.{[]}
 use mathlib.Core.Path.{◌≡◌, refl, ◌∙◌}
-use lib.ListN.{length}
 use Rattle.catalogue.specs.Catalogue.{ids, id_at, defaults}
 use Rattle.wire.specs.Wire.{number_at}
 use Rattle.wire.specs.Stored.{each}
 use Rattle.wire.proofs.Put.{Behind, put_behind}
 use Rattle.writer.specs.Laid.{laid}
 use Rattle.writer.proofs.Laid.{laid_one, laid_more}
-use borrow.Author.Rules.{rules}
 use Rattle.tidy.proofs.put_numbers.Goals as goal
 
 pub loop-i-init : goal.loop-i-init

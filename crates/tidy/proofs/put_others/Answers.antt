@@ -1,16 +1,14 @@
 -- `tidy::put_others` meets its contract. The invariant: the first `i` places are laid. Assumes nothing.
-use Prim.Native.Nat.{◌≤◌, ◌-◌, ◌+◌}
+use Prim.Native.Nat.{◌+◌}
 use native.Mathlib.Omega.{arith}
 use mathlib.Core.List.{[]}
 use mathlib.Core.Path.{◌≡◌, refl, ◌∙◌}
-use lib.ListN.{length}
 use Rattle.catalogue.specs.Catalogue.{ids, id_at}
 use Rattle.wire.specs.Stored.{each}
 use Rattle.wire.proofs.Put.{Behind, put_behind}
 use Rattle.writer.specs.Laid.{laid}
 use Rattle.writer.proofs.Laid.{laid_one, laid_more}
 use Rattle.tidy.specs.Pieces.{piece_for, others}
-use borrow.Author.Rules.{rules}
 use Rattle.tidy.proofs.put_others.Goals as goal
 
 pub loop-i-init : goal.loop-i-init

@@ -1,16 +1,12 @@
 -- `tidy::put_others` meets its contract. The invariant: the first `i` places are laid. Assumes nothing.
 use Prim.Native.Nat.{◌≤◌, ◌-◌, ◌+◌}
-use native.Mathlib.Omega.{arith}
 use mathlib.Core.List.{[]}
-use mathlib.Core.Path.{◌≡◌, refl, ◌∙◌}
+use mathlib.Core.Path.{◌≡◌}
 use lib.ListN.{length}
-use Rattle.catalogue.specs.Catalogue.{ids, id_at}
+use Rattle.catalogue.specs.Catalogue.{id_at}
 use Rattle.wire.specs.Stored.{each}
-use Rattle.wire.proofs.Put.{Behind, put_behind}
 use Rattle.writer.specs.Laid.{laid}
-use Rattle.writer.proofs.Laid.{laid_one, laid_more}
-use Rattle.tidy.specs.Pieces.{piece_for, others}
-use borrow.Author.Rules.{rules}
+use Rattle.tidy.specs.Pieces.{piece_for}
 use Rattle.tidy.proofs.put_others.Given as goal
 
 abbrev pub invariant-loop-i : goal.invariant-loop-i

@@ -1,7 +1,7 @@
 -- `tidy::put_tidied` meets its contract. Assumes nothing.
 use native.Mathlib.Omega.{arith}
 use mathlib.Core.List.{[]}
-use mathlib.Core.Path.{◌≡◌, ap, sym, ◌∙◌}
+use mathlib.Core.Path.{ap, sym, ◌∙◌}
 use Prim.Native.Nat.{◌≤◌}
 use lib.ListN.{length, take, replicate}
 use Rattle.wire.specs.Stored.{Wrote, joined}
@@ -9,7 +9,6 @@ use Rattle.wire.proofs.Stored.{stored_short, stored_whole, stored_copy, whole_pa
 use Rattle.wire.proofs.Put.{stored}
 use Rattle.writer.proofs.Laid.{whole_laid}
 use Rattle.tidy.specs.Pieces.{pieces}
-use borrow.Author.Rules.{rules}
 use Rattle.tidy.proofs.put_tidied.Goals as goal
 
 pub returns-then-out-ge-MAX_EXTENSION : goal.returns-then-out-ge-MAX_EXTENSION

@@ -4,7 +4,6 @@ use Rattle.record.specs.Values.{Bytes}
 use Rattle.index.specs.Index.{indexed}
 use Rattle.index.proofs.Settled.{stopped_is, marks_is}
 use Rattle.tidy.proofs.Pieces.{few, within, tidied_pieces, not_read}
-use borrow.Author.Rules.{rules}
 use Rattle.tidy.proofs.tidy.Goals as goal
 
 pub put_tidied-requires : goal.put_tidied-requires

@@ -1,8 +1,7 @@
 -- `timing::code_of` meets its contract. Assumes nothing.
-use mathlib.Core.Path.{ap, sym, ◌∙◌}
+use mathlib.Core.Path.{ap, sym}
 use Rattle.refusal.specs.Answer.{count_outcome}
 use Rattle.timing.specs.Timing.{code_of}
-use borrow.Author.Rules.{rules}
 use Rattle.timing.proofs.code_of.Goals as goal
 
 pub returns-in-Count : goal.returns-in-Count

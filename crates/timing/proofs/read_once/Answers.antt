@@ -1,6 +1,5 @@
 -- `timing::read_once` meets its contract. Assumes nothing.
 use Rattle.timing.proofs.Answers.{code_in, code_out}
-use borrow.Author.Rules.{rules}
 use Rattle.timing.proofs.read_once.Goals as goal
 
 pub returns-in-Accepted : goal.returns-in-Accepted

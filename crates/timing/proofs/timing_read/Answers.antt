@@ -1,5 +1,4 @@
 -- `timing::timing_read` meets its contract. The invariant: what is kept is what the last of `i` calls gave. Assumes nothing.
-use Prim.Native.Nat.{◌≤◌, ◌-◌}
 use native.Mathlib.Omega.{arith}
 use mathlib.Core.Path.{◌≡◌, refl, ap, ◌∙◌}
 use Rattle.rules.specs.declared.Side.TheVariants.{Client}

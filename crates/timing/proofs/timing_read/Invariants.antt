@@ -1,11 +1,9 @@
 -- `timing::timing_read` meets its contract. The invariant: what is kept is what the last of `i` calls gave. Assumes nothing.
 use Prim.Native.Nat.{◌≤◌, ◌-◌}
-use native.Mathlib.Omega.{arith}
-use mathlib.Core.Path.{◌≡◌, refl, ap, ◌∙◌}
+use mathlib.Core.Path.{◌≡◌}
 use Rattle.rules.specs.declared.Side.TheVariants.{Client}
 use Rattle.reader.specs.Reading.{read}
 use Rattle.timing.specs.Timing.{code, last_of}
-use Rattle.timing.proofs.Answers.{last_more}
 use Rattle.timing.proofs.timing_read.Given as goal
 
 abbrev pub invariant-loop-i : goal.invariant-loop-i

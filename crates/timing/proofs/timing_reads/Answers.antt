@@ -8,10 +8,9 @@ use borrow.Author.Tests.{lt-ltb, le-ltb}
 use Rattle.refusal.specs.Outcome.{pick}
 use Rattle.rules.specs.declared.Side.TheVariants.{Client}
 use Rattle.reader.specs.Reading.{read}
-use Rattle.timing.specs.Timing.{code, repeat, read_next}
+use Rattle.timing.specs.Timing.{code}
 use Rattle.timing.proofs.Answers.{reads_more, reads_all, reads_none}
 use Rattle.reader.proofs.Indexed.{lent}
-use borrow.Author.Rules.{rules}
 use Rattle.timing.proofs.timing_reads.Goals as goal
 use Rattle.timing.proofs.timing_reads.Goals.{then-src-at, else-src-at}
 

@@ -1,6 +1,5 @@
 -- `timing::timing_tidy` meets its contract. Assumes nothing.
 use Rattle.timing.proofs.Answers.{coded}
-use borrow.Author.Rules.{rules}
 use Rattle.timing.proofs.timing_tidy.Goals as goal
 
 pub returns : goal.returns

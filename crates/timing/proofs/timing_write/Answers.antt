@@ -1,6 +1,5 @@
 -- `timing::timing_write` meets its contract. Assumes nothing.
 use Rattle.timing.proofs.Answers.{written_in, written_out}
-use borrow.Author.Rules.{rules}
 use Rattle.timing.proofs.timing_write.Goals as goal
 
 pub returns-in-Accepted : goal.returns-in-Accepted

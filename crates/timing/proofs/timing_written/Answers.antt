@@ -1,7 +1,6 @@
 -- `timing::timing_written` meets its contract. Assumes nothing.
 use Rattle.timing.proofs.Answers.{written_in, written_out, once_more}
 use mathlib.Core.Path.{refl}
-use borrow.Author.Rules.{rules}
 use Rattle.timing.proofs.timing_written.Goals as goal
 
 pub returns-in-Accepted : goal.returns-in-Accepted

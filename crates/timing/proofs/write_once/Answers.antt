@@ -1,6 +1,5 @@
 -- `timing::write_once` meets its contract. Assumes nothing.
 use Rattle.timing.proofs.Answers.{coded}
-use borrow.Author.Rules.{rules}
 use Rattle.timing.proofs.write_once.Goals as goal
 
 pub returns : goal.returns

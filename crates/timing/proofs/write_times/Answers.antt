@@ -1,11 +1,8 @@
 -- `timing::write_times` meets its contract. The invariant: the answer and the buffer are those of `i` calls. Assumes nothing.
-use Prim.Native.Nat.{◌≤◌, ◌-◌}
 use native.Mathlib.Omega.{arith}
 use mathlib.Core.Path.{◌≡◌, refl, ap, ◌∙◌}
-use lib.ListN.{length}
 use Rattle.timing.specs.Timing.{again, repeat}
 use Rattle.timing.proofs.Answers.{once_more}
-use borrow.Author.Rules.{rules}
 use Rattle.timing.proofs.write_times.Goals as goal
 
 pub loop-i-init : goal.loop-i-init

@@ -1,11 +1,8 @@
 -- `timing::write_times` meets its contract. The invariant: the answer and the buffer are those of `i` calls. Assumes nothing.
 use Prim.Native.Nat.{◌≤◌, ◌-◌}
-use native.Mathlib.Omega.{arith}
-use mathlib.Core.Path.{◌≡◌, refl, ap, ◌∙◌}
+use mathlib.Core.Path.{◌≡◌}
 use lib.ListN.{length}
 use Rattle.timing.specs.Timing.{again, repeat}
-use Rattle.timing.proofs.Answers.{once_more}
-use borrow.Author.Rules.{rules}
 use Rattle.timing.proofs.write_times.Given as goal
 
 abbrev pub invariant-loop-i : goal.invariant-loop-i

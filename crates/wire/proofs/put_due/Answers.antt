@@ -1,7 +1,6 @@
 -- `wire::put_due` meets its contract. Assumes nothing.
 use native.Mathlib.Omega.{arith}
 use Rattle.wire.proofs.Put.{due_short}
-use borrow.Author.Rules.{rules}
 use Rattle.wire.proofs.put_due.Goals as goal
 
 pub returns-then-v-lt64 : goal.returns-then-v-lt64

@@ -4,7 +4,6 @@ use mathlib.Core.Path.{ap}
 use Rattle.refusal.specs.Answer.{count_outcome}
 use Rattle.wire.proofs.Stored.{lent}
 use Rattle.wire.proofs.Put.{number_fits, Encoded, encoded, declined, head_first, head_room, head_second, head_whole}
-use borrow.Author.Rules.{rules}
 use Rattle.wire.proofs.put_head.Goals as goal
 
 pub returns-in_default : goal.returns-in_default

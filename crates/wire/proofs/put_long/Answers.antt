@@ -1,7 +1,6 @@
 -- `wire::put_long` meets its contract. Assumes nothing.
 use native.Mathlib.Omega.{arith}
 use Rattle.wire.proofs.Put.{taken, long_nothing, long_none, long_whole}
-use borrow.Author.Rules.{rules}
 use Rattle.wire.proofs.put_long.Goals as goal
 
 pub returns-then-n-eq0 : goal.returns-then-n-eq0

@@ -2,10 +2,8 @@
 use native.Mathlib.Omega.{arith}
 use mathlib.Core.Path.{ap}
 use lib.ListN.{replicate}
-use borrow.Author.Tests.{not-true, not-false}
 use Rattle.refusal.specs.Answer.{count_outcome}
 use Rattle.wire.proofs.Put.{put_nil, Encoded, encoded, declined, too_high, encoded_part, taken, number_not_due, number_high, number_low}
-use borrow.Author.Rules.{rules}
 use Rattle.wire.proofs.put_number.Goals as goal
 
 pub returns-then-not-due : goal.returns-then-not-due

@@ -4,7 +4,6 @@ use mathlib.Core.Path.{refl}
 use lib.ListN.{length-set}
 use Rattle.wire.proofs.Stored.{behind}
 use Rattle.wire.proofs.Put.{stored, short_none, short_whole}
-use borrow.Author.Rules.{rules}
 use Rattle.wire.proofs.put_short.Goals as goal
 
 pub returns-then-out-n : goal.returns-then-out-n

@@ -5,7 +5,6 @@ use lib.ListN.{length-set}
 use Rattle.refusal.specs.Answer.{count_outcome}
 use Rattle.wire.proofs.Stored.{lent}
 use Rattle.wire.proofs.Put.{number_size_lem, number_fits, Encoded, encoded, declined, number_none, number_declined, number_whole}
-use borrow.Author.Rules.{rules}
 use Rattle.wire.proofs.put_short_number.Goals as goal
 
 pub returns-then-out-lt2 : goal.returns-then-out-lt2

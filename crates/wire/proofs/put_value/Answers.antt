@@ -1,7 +1,5 @@
 -- `wire::put_value` meets its contract. Assumes nothing.
-use borrow.Author.Tests.{not-true, not-false}
 use Rattle.wire.proofs.Put.{put_nil, not_due}
-use borrow.Author.Rules.{rules}
 use Rattle.wire.proofs.put_value.Goals as goal
 
 pub returns-then-not-due : goal.returns-then-not-due

@@ -1,8 +1,6 @@
 -- `writer::is_order` meets its contract: catalogue order is an order. Assumes nothing.
 use mathlib.Core.Path.{sym}
-use borrow.Author.Tests.{not-true, not-false}
 use Rattle.order.proofs.Orders.{in_catalogue}
-use borrow.Author.Rules.{rules}
 use Rattle.writer.proofs.is_order.Goals as goal
 
 pub returns-then-not-present : goal.returns-then-not-present

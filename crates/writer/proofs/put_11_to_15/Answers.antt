@@ -3,7 +3,6 @@ use native.Mathlib.Omega.{arith}
 use Rattle.catalogue.specs.Catalogue.{ids, id_at}
 use Rattle.writer.proofs.Laid.{room_step, room_next, laid_step}
 use Rattle.writer.proofs.Places.{formed, room_11, laid_11}
-use borrow.Author.Rules.{rules}
 use Rattle.writer.proofs.put_11_to_15.Goals as goal
 
 pub put_reserved-a-requires : goal.put_reserved-a-requires

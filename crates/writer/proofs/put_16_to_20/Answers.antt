@@ -3,7 +3,6 @@ use native.Mathlib.Omega.{arith}
 use Rattle.catalogue.specs.Catalogue.{ids, id_at}
 use Rattle.writer.proofs.Laid.{room_step, room_next, laid_step}
 use Rattle.writer.proofs.Places.{formed, room_16, laid_16}
-use borrow.Author.Rules.{rules}
 use Rattle.writer.proofs.put_16_to_20.Goals as goal
 
 pub put_cid-a-requires : goal.put_cid-a-requires

@@ -1,7 +1,5 @@
 -- `writer::put_block` meets its contract. Assumes nothing.
-use native.Mathlib.Omega.{arith}
 use Rattle.writer.proofs.Ordered.{slice_stored}
-use borrow.Author.Rules.{rules}
 use Rattle.writer.proofs.put_block.Goals as goal
 
 pub returns : goal.returns

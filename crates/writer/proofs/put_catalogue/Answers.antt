@@ -1,7 +1,6 @@
 -- `writer::put_catalogue` meets its contract: one part after another. Assumes nothing.
 use Rattle.writer.proofs.Laid.{room_front, room_then}
 use Rattle.writer.proofs.Places.{formed, room_all, whole_catalogue}
-use borrow.Author.Rules.{rules}
 use Rattle.writer.proofs.put_catalogue.Goals as goal
 
 pub put_numbers-a-requires : goal.put_numbers-a-requires

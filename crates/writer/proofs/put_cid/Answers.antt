@@ -1,6 +1,5 @@
 -- `writer::put_cid` meets its contract. Assumes nothing.
 use Rattle.writer.proofs.Parts.{cid_field}
-use borrow.Author.Rules.{rules}
 use Rattle.writer.proofs.put_cid.Goals as goal
 
 pub put_field-requires : goal.put_field-requires

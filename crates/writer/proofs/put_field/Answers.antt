@@ -6,7 +6,6 @@ use Rattle.writer.proofs.Parts.{field_laid}
 use Rattle.wire.specs.Wire.{put, due_value}
 use Rattle.wire.proofs.Stored.{lent}
 use Rattle.writer.proofs.Laid.{laid_one, next_lent, end_fits}
-use borrow.Author.Rules.{rules}
 use Rattle.writer.proofs.put_field.Goals as goal
 
 pub overflow_add-end : goal.overflow_add-end

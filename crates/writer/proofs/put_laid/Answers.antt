@@ -4,7 +4,6 @@ use mathlib.Core.Path.{sym}
 use lib.Seq.{length-take-le}
 use Rattle.wire.proofs.Stored.{stored_short}
 use Rattle.writer.proofs.Answers.{laid_count, laid_ordered, laid_plain}
-use borrow.Author.Rules.{rules}
 use Rattle.writer.proofs.put_laid.Goals as goal
 
 pub returns-then-out-n : goal.returns-then-out-n

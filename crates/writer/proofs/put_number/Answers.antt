@@ -5,7 +5,6 @@ use Rattle.laying.proofs.Wide.{number_clear}
 use Rattle.wire.specs.Wire.{put, due_number}
 use Rattle.wire.proofs.Stored.{lent}
 use Rattle.writer.proofs.Laid.{laid_one, next_lent, end_fits}
-use borrow.Author.Rules.{rules}
 use Rattle.writer.proofs.put_number.Goals as goal
 
 pub overflow_add-end : goal.overflow_add-end

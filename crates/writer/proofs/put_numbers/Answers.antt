@@ -1,5 +1,4 @@
 -- `writer::put_numbers` meets its contract. The invariant: the first `p` places are laid. Assumes nothing.
-use Prim.Native.Nat.{◌≤◌, ◌-◌}
 use native.Mathlib.Omega.{arith}
 use native.Mathlib.Nat.{add_comm}
 use mathlib.Core.Path.{◌≡◌, refl}

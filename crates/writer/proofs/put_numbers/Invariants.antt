@@ -1,13 +1,9 @@
 -- `writer::put_numbers` meets its contract. The invariant: the first `p` places are laid. Assumes nothing.
 use Prim.Native.Nat.{◌≤◌, ◌-◌}
-use native.Mathlib.Omega.{arith}
-use native.Mathlib.Nat.{add_comm}
-use mathlib.Core.Path.{◌≡◌, refl}
-use Rattle.catalogue.specs.Catalogue.{ids, id_at, defaults}
+use mathlib.Core.Path.{◌≡◌}
 use Rattle.wire.specs.Wire.{number_at}
 use Rattle.wire.specs.Stored.{each}
 use Rattle.writer.specs.Laid.{laid}
-use Rattle.writer.proofs.Laid.{index, place, turn_le, turn_less, laid_more, laid_within, room_among}
 use Rattle.writer.proofs.put_numbers.Given as goal
 
 abbrev pub invariant-loop-p : goal.invariant-loop-p

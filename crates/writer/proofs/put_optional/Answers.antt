@@ -1,5 +1,4 @@
 -- `writer::put_optional` meets its contract. Assumes nothing.
-use borrow.Author.Rules.{rules}
 use Rattle.writer.proofs.put_optional.Goals as goal
 
 pub returns : goal.returns

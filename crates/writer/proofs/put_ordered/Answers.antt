@@ -1,16 +1,14 @@
 -- `writer::put_ordered` meets its contract. The invariant: the parameters at the first `k` places of the order stand at the front. Assumes nothing.
-use Prim.Native.Nat.{◌+◌, ◌-◌, ◌^◌, ◌≤◌, ◌<◌}
+use Prim.Native.Nat.{◌^◌, ◌≤◌, ◌<◌}
 use native.Mathlib.Omega.{arith}
 use native.Mathlib.Nat.{le_refl, le_trans, le-add_right}
 use mathlib.Core.Path.{◌≡◌, refl, sym, ◌∙◌}
-use lib.ListN.{length, take, drop, get_or}
+use lib.ListN.{length, take}
 use lib.Seq.{take_all}
 use Rattle.catalogue.specs.Catalogue.{places}
-use Rattle.writer.specs.Writing.{concat_of}
-use Rattle.writer.specs.Laid.{part_at, Front}
+use Rattle.writer.specs.Laid.{part_at}
 use Rattle.writer.proofs.Laid.{index, turn_le, turn_less, fits_room}
 use Rattle.writer.proofs.Ordered.{Part, part_room, part_long, fit, ordered_more, ordered_all}
-use borrow.Author.Rules.{rules}
 use Rattle.writer.proofs.put_ordered.Goals as goal
 
 pub loop-k-init : goal.loop-k-init

@@ -1,5 +1,5 @@
 -- `writer::put_part` meets its contract. The invariant: the first `i` bytes stand at the front. Assumes nothing.
-use Prim.Native.Nat.{◌+◌, ◌-◌, ◌≤◌, ◌<◌}
+use Prim.Native.Nat.{◌≤◌}
 use native.Mathlib.Omega.{arith}
 use native.Mathlib.Nat.{le_refl}
 use mathlib.Core.Path.{refl, ◌∙◌}
@@ -7,7 +7,6 @@ use lib.ListN.{length, drop}
 use Rattle.wire.proofs.Stored.{behind}
 use Rattle.writer.specs.Laid.{Front}
 use Rattle.writer.proofs.Ordered.{slice_stored, block_first, block_more, front_less}
-use borrow.Author.Rules.{rules}
 use Rattle.writer.proofs.put_part.Goals as goal
 
 pub overflow_add-len : goal.overflow_add-len

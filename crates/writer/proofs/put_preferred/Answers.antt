@@ -7,7 +7,6 @@ use Rattle.wire.proofs.Stored.{lent}
 use Rattle.address.specs.Address.{address_bytes}
 use Rattle.address.proofs.Address.{address_due}
 use Rattle.writer.proofs.Laid.{laid_one, end_fits}
-use borrow.Author.Rules.{rules}
 use Rattle.writer.proofs.put_preferred.Goals as goal
 
 pub overflow_add-end : goal.overflow_add-end

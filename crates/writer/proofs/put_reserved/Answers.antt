@@ -1,6 +1,5 @@
 -- `writer::put_reserved` meets its contract. Assumes nothing.
 use Rattle.writer.proofs.Parts.{reserved_field}
-use borrow.Author.Rules.{rules}
 use Rattle.writer.proofs.put_reserved.Goals as goal
 
 pub put_field-requires : goal.put_field-requires

@@ -3,7 +3,6 @@ use native.Mathlib.Omega.{arith}
 use lib.Seq.{take_all}
 use Rattle.catalogue.specs.Catalogue.{ids, id_at}
 use Rattle.writer.proofs.Parts.{token_field}
-use borrow.Author.Rules.{rules}
 use Rattle.writer.proofs.put_token.Goals as goal
 
 pub put_field-requires : goal.put_field-requires

@@ -5,7 +5,6 @@ use mathlib.Core.Bool.{true}
 use mathlib.Core.List.{List}
 use Prim.Native.Nat.{ℕ, ◌+◌}
 use lib.ListN.{replicate}
-use borrow.Author.Tests.{not-true, not-false}
 use Rattle.refusal.specs.Outcome.{store}
 use Rattle.words.proofs.Laws.{zeros_replicate}
 use Rattle.record.specs.Record.{well_formed}
@@ -15,7 +14,6 @@ use Rattle.writer.proofs.Extension.{longest}
 use Rattle.writer.specs.Writing.{max_extension, order_of}
 use Rattle.writer.proofs.Places.{formed, in_catalogue_order}
 use Rattle.writer.proofs.Answers.{due, ready, write_ill, write_invalid, write_stored}
-use borrow.Author.Rules.{rules}
 use Rattle.writer.proofs.write.Goals as goal
 
 pub returns-then-not-is_well_formed : goal.returns-then-not-is_well_formed

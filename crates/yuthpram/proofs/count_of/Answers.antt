@@ -1,5 +1,4 @@
 -- `yuthpram::count_of` meets its contract. Assumes nothing.
-use borrow.Author.Rules.{rules}
 use Rattle.yuthpram.proofs.count_of.Goals as goal
 
 pub returns-in-Count : goal.returns-in-Count

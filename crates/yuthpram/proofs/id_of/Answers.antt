@@ -1,6 +1,5 @@
 -- `yuthpram::id_of` meets its contract. Assumes nothing.
 use Rattle.by_image.proofs.Answers.{answered_in, answered_out}
-use borrow.Author.Rules.{rules}
 use Rattle.yuthpram.proofs.id_of.Goals as goal
 
 pub returns-in-Accepted : goal.returns-in-Accepted

@@ -1,6 +1,5 @@
 -- `yuthpram::settings_from` meets its contract. Assumes nothing.
 use Rattle.yuthpram.specs.Interface.{settings_from}
-use borrow.Author.Rules.{rules}
 use Rattle.yuthpram.proofs.settings_from.Goals as goal
 
 pub returns : goal.returns

@@ -3,7 +3,6 @@ use mathlib.Core.Path.{ap}
 use Rattle.refusal.specs.Answer.{count_outcome}
 use Rattle.yuthpram.specs.Interface.{cid_store}
 use Rattle.yuthpram.proofs.Answers.{cid_counted, cid_not}
-use borrow.Author.Rules.{rules}
 use Rattle.yuthpram.proofs.store_cid.Goals as goal
 
 pub returns-in-Count : goal.returns-in-Count

@@ -1,7 +1,6 @@
 -- `yuthpram::yuthpram_check` meets its contract. Assumes nothing.
 use mathlib.Core.Path.{ap, ◌∙◌}
 use Rattle.yuthpram.specs.Interface.{code, record_check}
-use borrow.Author.Rules.{rules}
 use Rattle.yuthpram.proofs.yuthpram_check.Goals as goal
 
 pub returns : goal.returns

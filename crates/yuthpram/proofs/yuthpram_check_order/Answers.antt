@@ -1,7 +1,6 @@
 -- `yuthpram::yuthpram_check_order` meets its contract. Assumes nothing.
 use mathlib.Core.Path.{sym, ◌∙◌}
 use Rattle.yuthpram.specs.Interface.{order_check}
-use borrow.Author.Rules.{rules}
 use Rattle.yuthpram.proofs.yuthpram_check_order.Goals as goal
 
 pub returns-then-is_permutation : goal.returns-then-is_permutation

@@ -1,7 +1,6 @@
 -- `yuthpram::yuthpram_cid_read` meets its contract. Assumes nothing.
 use Rattle.yuthpram.specs.Interface.{cid_read, cid_store}
 use Rattle.yuthpram.proofs.Answers.{given_counted, not_counted, decoded_in, decoded_out}
-use borrow.Author.Rules.{rules}
 use Rattle.yuthpram.proofs.yuthpram_cid_read.Goals as goal
 
 pub returns-in-Count : goal.returns-in-Count

@@ -3,7 +3,6 @@ use Rattle.connection_id.specs.ConnectionId.{write_cid}
 use Rattle.by_image.proofs.Answers.{answered_in, answered_out}
 use Rattle.yuthpram.specs.Interface.{cid_write}
 use Rattle.yuthpram.proofs.Answers.{given_counted, not_counted, into_count}
-use borrow.Author.Rules.{rules}
 use Rattle.yuthpram.proofs.yuthpram_cid_write.Goals as goal
 
 pub returns-in-Accepted : goal.returns-in-Accepted

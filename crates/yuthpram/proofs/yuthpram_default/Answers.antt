@@ -2,7 +2,6 @@
 use Rattle.by_image.specs.ByImage.{record_store}
 use Rattle.yuthpram.specs.Interface.{record_default}
 use Rattle.yuthpram.proofs.Answers.{into_code}
-use borrow.Author.Rules.{rules}
 use Rattle.yuthpram.proofs.yuthpram_default.Goals as goal
 
 pub returns : goal.returns

@@ -1,7 +1,6 @@
 -- `yuthpram::yuthpram_issue_cids_limit` meets its contract. Assumes nothing.
 use Rattle.yuthpram.specs.Interface.{limit_read}
 use Rattle.by_image.proofs.Answers.{answered_in, answered_out}
-use borrow.Author.Rules.{rules}
 use Rattle.yuthpram.proofs.yuthpram_issue_cids_limit.Goals as goal
 
 pub returns-in-Accepted : goal.returns-in-Accepted

@@ -1,7 +1,6 @@
 -- `yuthpram::yuthpram_length` meets its contract. Assumes nothing.
 use mathlib.Core.Path.{ap, ◌∙◌}
 use Rattle.yuthpram.specs.Interface.{count_code, record_length}
-use borrow.Author.Rules.{rules}
 use Rattle.yuthpram.proofs.yuthpram_length.Goals as goal
 
 pub returns : goal.returns

@@ -4,7 +4,6 @@ use Rattle.by_image.specs.ByImage.{record_store}
 use Rattle.by_image.proofs.Answers.{answered_in, answered_out}
 use Rattle.yuthpram.specs.Interface.{record_new}
 use Rattle.yuthpram.proofs.Answers.{into_code, given_coded, not_coded, other_count, built}
-use borrow.Author.Rules.{rules}
 use Rattle.yuthpram.proofs.yuthpram_new.Goals as goal
 
 pub returns-then-settings-ne-SETTINGS : goal.returns-then-settings-ne-SETTINGS

@@ -3,7 +3,6 @@ use mathlib.Core.Path.{ap}
 use Rattle.varint.specs.Answer.{read_outcome}
 use Rattle.yuthpram.specs.Interface.{number_read}
 use Rattle.yuthpram.proofs.Answers.{number_done, number_refused}
-use borrow.Author.Rules.{rules}
 use Rattle.yuthpram.proofs.yuthpram_number_read.Goals as goal
 
 pub returns-in-Value : goal.returns-in-Value

@@ -1,7 +1,6 @@
 -- `yuthpram::yuthpram_number_size` meets its contract. Assumes nothing.
 use mathlib.Core.Path.{ap, ◌∙◌}
 use Rattle.yuthpram.specs.Interface.{count_code, number_size}
-use borrow.Author.Rules.{rules}
 use Rattle.yuthpram.proofs.yuthpram_number_size.Goals as goal
 
 pub returns : goal.returns

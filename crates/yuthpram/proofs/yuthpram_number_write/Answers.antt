@@ -1,7 +1,6 @@
 -- `yuthpram::yuthpram_number_write` meets its contract. Assumes nothing.
 use Rattle.yuthpram.specs.Interface.{number_write}
 use Rattle.yuthpram.proofs.Answers.{into_count}
-use borrow.Author.Rules.{rules}
 use Rattle.yuthpram.proofs.yuthpram_number_write.Goals as goal
 
 pub returns : goal.returns

@@ -2,7 +2,6 @@
 use mathlib.Core.Path.{ap, sym, ◌∙◌}
 use Rattle.order.specs.Answer.{fault_position}
 use Rattle.yuthpram.specs.Interface.{order_position}
-use borrow.Author.Rules.{rules}
 use Rattle.yuthpram.proofs.yuthpram_order_fault.Goals as goal
 
 pub returns-in-At : goal.returns-in-At

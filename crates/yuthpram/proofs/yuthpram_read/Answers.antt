@@ -1,7 +1,6 @@
 -- `yuthpram::yuthpram_read` meets its contract. Assumes nothing.
 use Rattle.yuthpram.specs.Interface.{record_read}
 use Rattle.yuthpram.proofs.Answers.{into_code}
-use borrow.Author.Rules.{rules}
 use Rattle.yuthpram.proofs.yuthpram_read.Goals as goal
 
 pub returns : goal.returns

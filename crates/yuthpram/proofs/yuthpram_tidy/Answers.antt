@@ -1,7 +1,6 @@
 -- `yuthpram::yuthpram_tidy` meets its contract. Assumes nothing.
 use Rattle.yuthpram.specs.Interface.{tidied}
 use Rattle.yuthpram.proofs.Answers.{into_count}
-use borrow.Author.Rules.{rules}
 use Rattle.yuthpram.proofs.yuthpram_tidy.Goals as goal
 
 pub returns : goal.returns

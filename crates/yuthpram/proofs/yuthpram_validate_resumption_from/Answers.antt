@@ -1,7 +1,6 @@
 -- `yuthpram::yuthpram_validate_resumption_from` meets its contract. Assumes nothing.
 use mathlib.Core.Path.{ap, ◌∙◌}
 use Rattle.yuthpram.specs.Interface.{code, resume_check}
-use borrow.Author.Rules.{rules}
 use Rattle.yuthpram.proofs.yuthpram_validate_resumption_from.Goals as goal
 
 pub returns : goal.returns

@@ -1,7 +1,6 @@
 -- `yuthpram::yuthpram_write` meets its contract. Assumes nothing.
 use Rattle.yuthpram.specs.Interface.{record_write}
 use Rattle.yuthpram.proofs.Answers.{into_count}
-use borrow.Author.Rules.{rules}
 use Rattle.yuthpram.proofs.yuthpram_write.Goals as goal
 
 pub returns : goal.returns
