@@ -1,6 +1,6 @@
 -- The parameter at a position: what the code's tests mean for it, and that it is the parameter at the front of the bytes from there on. Assumes
 -- nothing.
---     located_front    located and readParameter agree
+--     located_front    located and read_parameter agree
 --     within           its value lies within the bytes, behind the position
 use Prim.Native.Nat.{ℕ, ◌+◌, ◌-◌, ◌/◌, ◌%◌, ◌≤◌, ◌<◌}
 use mathlib.Core.Path.{◌≡◌, refl, ap, sym, ◌∙◌}
