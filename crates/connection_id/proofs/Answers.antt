@@ -11,6 +11,7 @@ use borrow.Author.Tests.{le-leb, lt-leb, eq-eqb}
 use Rattle.refusal.specs.Outcome.{Outcome, accepted, refused, all, front, store}
 use Rattle.refusal.specs.Number.{number_of}
 use Rattle.refusal.specs.declared.Refusal.{Refusal}
+use Rattle.refusal.specs.declared.Refusal.TheVariants.{Malformed}
 use Rattle.connection_id.specs.declared.ConnectionId.{ConnectionId}
 use Rattle.refusal.specs.declared.Counted.TheVariants.{Count, Refused}
 use Rattle.connection_id.specs.declared.DecodedCid.{DecodedCid}
@@ -58,6 +59,23 @@ pub read_whole : (s : List ℕ) → 0 < length s → get_or s 0 0 ≤ 20 → get
 unfolding read_cid
 read_whole [] p h k = absurd (omega arith)
 read_whole (n ∷ bs) p h k = let e : n + 1 - 1 ≡ n = omega arith in rw (e, le-leb n 20 h, le-leb n (length bs) (omega arith))
+
+-- the settled answers of reading
+pub refused_none : (d : DecodedCid) (s : List ℕ) → d ≡ made_of (Refused Malformed) (cid_of []) → length s ≡ 0
+    → (read_outcome d, d.cid) ≡ settled (read_cid s)
+refused_none d s e h = refused_with_lem d Malformed _ e (read_none s h)
+
+pub refused_long : (d : DecodedCid) (s : List ℕ) → d ≡ made_of (Refused Malformed) (cid_of []) → 0 < length s → 20 < get_or s 0 0
+    → (read_outcome d, d.cid) ≡ settled (read_cid s)
+refused_long d s e p h = refused_with_lem d Malformed _ e (read_long s p h)
+
+pub refused_short : (d : DecodedCid) (s : List ℕ) → d ≡ made_of (Refused Malformed) (cid_of []) → 0 < length s → get_or s 0 0 ≤ 20
+    → length s < get_or s 0 0 + 1 → (read_outcome d, d.cid) ≡ settled (read_cid s)
+refused_short d s e p h k = refused_with_lem d Malformed _ e (read_short s p h k)
+
+pub accepted_whole : (c : ConnectionId) (s : List ℕ) → c ≡ cid_of (take (get_or s 0 0 + 1 - 1) (drop 1 s)) → 0 < length s → get_or s 0 0 ≤ 20
+    → get_or s 0 0 + 1 ≤ length s → (read_outcome (made_of (Count (get_or s 0 0 + 1)) c), c) ≡ settled (read_cid s)
+accepted_whole c s e p h k = accepted_with c _ _ _ e (read_whole s p h k)
 
 -- well formed
 pub formed_long : (c : ConnectionId) → length c.bytes ≡ 20 → 20 < c.len → false ≡ formed_cid c

@@ -75,6 +75,7 @@ impl ConnectionId {
     }
 
     // The ID behind the length byte at the front of `src`.
+    #[tactic(auto, using(crate::proofs::Answers::refused_none, crate::proofs::Answers::refused_long, crate::proofs::Answers::refused_short, crate::proofs::Answers::accepted_whole))]
     pub fn decode_long(src: &[u8]) -> DecodedCid
         ensures { (read_outcome result, result.cid) ≡ settled (read_cid src.now) }
     {

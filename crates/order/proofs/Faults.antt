@@ -6,6 +6,7 @@
 --     none_permutation    nothing is wrong exactly with a permutation
 --     first_fault         what the position says (specs/FirstFault.antt)
 --     at_fault, one_more, met_more, at_end    a pass: an entry that is at fault, one that is not, and the end
+--     at_outside, too_short, long_enough      its answers: an entry that is no place, and the end with and without entries missing
 use Prim.Native.Nat.{ℕ, zero, suc, ◌+◌, ◌≤◌, ◌<◌}
 use mathlib.Core.Path.{◌≡◌, refl, ap, sym, ◌∙◌}
 use mathlib.Core.List.{List, [], ◌∷◌, ◌++◌}
@@ -17,7 +18,7 @@ use native.Mathlib.Numerals.{add-one}
 use lib.ListN.{length, get_or, take, length-append, get_or-append}
 use lib.Seq.{take-suc, take-length, length-take-le, take-append-le, get_or-take}
 use lib.Dec.{eqb, ltb}
-use borrow.Author.Tests.{ltb-true, ltb-false, leb-true, leb-false, lt-ltb, le-leb, lt-leb, eqb-true, eqb-false, eq-eqb, ne_eqb}
+use borrow.Author.Tests.{ltb-true, ltb-false, leb-true, leb-false, lt-ltb, le-ltb, le-leb, lt-leb, eqb-true, eqb-false, eq-eqb, ne_eqb}
 use Rattle.refusal.specs.Outcome.{pick, all}
 use Rattle.marks.specs.Mark.{marked, mark}
 use Rattle.marks.proofs.Laws.{marked_same, marked_other}
@@ -303,3 +304,14 @@ met_more os i m l p f q = rw (add-one i, take-suc os i 0 l, member_last q (get_o
     go : (x : ℕ) (b : Bool) → eqb q x ≡ b → marked (mark m x) q ≡ (b || member q (take i os))
     go x true e = rw (eqb-true q x e) (marked_same m x)
     go x false e = marked_other m x q (eqb-false q x e) ∙ f q
+
+-- the answers of the pass
+module _ (os : List ℕ) (i : ℕ) (e : first_below i (faulty os) ≡ none) where
+  pub at_outside : i < length os → places ≤ get_or os i 0 → some i ≡ order_fault os
+  at_outside l p = at_fault os i e l (rw (le-leb places (get_or os i 0) p))
+
+  pub too_short : i ≡ length os → i < places → some (length os) ≡ order_fault os
+  too_short s l = rw (lt-ltb i places l) at (at_end os i e (sym s))
+
+  pub long_enough : i ≡ length os → places ≤ i → none ≡ order_fault os
+  long_enough s l = rw (le-ltb i places l) at (at_end os i e (sym s))

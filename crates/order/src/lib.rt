@@ -19,6 +19,7 @@ pub enum OrderFault {
 }
 
 // One pass from the front, in which the places met are marked. It ends within the first 22 entries: no more than 21 have marks of their own.
+#[tactic(auto, using(crate::proofs::Faults::at_outside, crate::proofs::Faults::too_short, crate::proofs::Faults::long_enough))]
 pub fn order_fault(order: &[u8]) -> OrderFault
     ensures { fault_position result ≡ order_fault order.now }
 {

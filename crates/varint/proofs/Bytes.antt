@@ -136,3 +136,16 @@ module _ (v k : ℕ) (e : tag_of v ≡ k) where
 
   pub whole : (out out' : List ℕ) → out' ≡ front (form k v) out → (2 ^ k ≡ length (number_bytes v)) × (out' ≡ front (number_bytes v) out)
   whole out out' h = (sym size_at_lem, h ∙ rw e)
+
+-- how many bytes the shortest form has
+pub size_1 : (v : ℕ) → v < 64 → length (number_bytes v) ≡ 1
+size_1 v h = size_at_lem v 0 (tag_0 v h)
+
+pub size_2 : (v : ℕ) → 64 ≤ v → v < 16384 → length (number_bytes v) ≡ 2
+size_2 v l h = size_at_lem v 1 (tag_1 v l h)
+
+pub size_4 : (v : ℕ) → 16384 ≤ v → v < 1073741824 → length (number_bytes v) ≡ 4
+size_4 v l h = size_at_lem v 2 (tag_2 v l h)
+
+pub size_8 : (v : ℕ) → 1073741824 ≤ v → length (number_bytes v) ≡ 8
+size_8 v l = size_at_lem v 3 (tag_3 v l)

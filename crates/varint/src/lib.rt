@@ -115,6 +115,7 @@ impl VarInt {
 }
 
 // How many bytes the shortest form has; 8 for a value that has none.
+#[tactic(auto, using(crate::proofs::Bytes::size_1, crate::proofs::Bytes::size_2, crate::proofs::Bytes::size_4, crate::proofs::Bytes::size_8))]
 pub fn size_of(x: u64) -> usize
     ensures { result ≡ length (number_bytes x) }
 {
