@@ -5,27 +5,29 @@ use mathlib.Core.List.{List}
 use mathlib.Core.Bool.{true, false}
 use native.Mathlib.Omega.{arith}
 use Rattle.refusal.specs.Outcome.{Result, accepted, refused}
+use lib.ListN.{replicate}
+use Rattle.catalogue.specs.Catalogue.{places}
 use Rattle.rules.specs.declared.Side.{Side}
 use Rattle.front.specs.declared.Fault.{Fault}
 use Rattle.front.specs.declared.Fault.TheVariants.{Illegal}
 use Rattle.index.specs.declared.Scanned.TheVariants.{Marks, Stopped}
 use Rattle.index.specs.declared.Entries.{Entries}
-use Rattle.index.specs.Index.{Found, nothing, index_from, kept_rules, indexed}
-use Rattle.index.specs.Answer.{settled_index, refused_index}
+use Rattle.index.specs.Index.{Found, nothing, index_from, id_len, kept_rules, indexed}
+use Rattle.index.specs.Answer.{scan_outcome, settled_index, refused_index}
 
 module _ (side : Side) (s : List ℕ) where
   pub stopped : (x : Fault) → refused x ≡ index_from s 0 nothing → refused_index x ≡ settled_index (indexed side s)
   unfolding indexed
   stopped x e = rw (← e)
 
-  module _ (f : Found) (e : accepted f ≡ index_from s 0 nothing) where
-    pub illegal : false ≡ kept_rules side s f → refused_index Illegal ≡ settled_index (indexed side s)
-    unfolding indexed
-    illegal q = rw (← e, ← q)
+  module _ (m : ℕ) (kept lens : List ℕ) (e : scan_outcome (Marks m) kept lens ≡ index_from s 0 nothing) where
+    pub illegal : kept_rules side s (m, kept, replicate places 0) ≡ false → refused_index Illegal ≡ settled_index (indexed side s)
+    unfolding indexed kept_rules id_len
+    illegal q = rw (← e, q)
 
-    pub allowed : true ≡ kept_rules side s f → settled_index (accepted f) ≡ settled_index (indexed side s)
-    unfolding indexed
-    allowed q = rw (← e, ← q)
+    pub allowed : kept_rules side s (m, kept, replicate places 0) ≡ true → settled_index (accepted (m, kept, lens)) ≡ settled_index (indexed side s)
+    unfolding indexed kept_rules id_len
+    allowed q = rw (← e, q)
 
 -- what the entries show
 pub stopped_is : (o : Result Fault Found) (e : Entries) (x : Fault) → e ≡ settled_index o → e.found ≡ Stopped x → o ≡ refused x

@@ -142,6 +142,7 @@ fn refuse(fault: Fault) -> Entries
 }
 
 // Goes through an extension for a side: the first fault from the front, then the value rules.
+#[tactic(auto, using(crate::proofs::Settled::illegal, crate::proofs::Settled::allowed))]
 pub fn index(side: Side, src: &[u8]) -> Entries
     ensures { result ≡ settled_index (indexed side src.now) }
 {

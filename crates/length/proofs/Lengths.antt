@@ -2,7 +2,7 @@
 --     not_due, is_due    of a parameter
 --     all_lengths        all of them, for a well-formed record
 use Prim.Native.Nat.{ℕ, ◌+◌, ◌≤◌, ◌<◌}
-use mathlib.Core.Path.{◌≡◌, refl, ap, sym, ◌∙◌}
+use mathlib.Core.Path.{◌≡◌, refl, ap}
 use mathlib.Core.List.{List, []}
 use mathlib.Core.Option.{none, some}
 use mathlib.Core.Bool.{Bool, true, false, not}
@@ -10,7 +10,7 @@ use native.Mathlib.Omega.{arith}
 use lib.ListN.{length, get_or, take, length-append}
 use lib.Seq.{length-take-le}
 use lib.Dec.{eqb}
-use borrow.Author.Tests.{not-true, not-false, eqb-true, leb-true, lt-ltb, ne_eqb}
+use borrow.Author.Tests.{eqb-true, leb-true, lt-ltb, ne_eqb}
 use Rattle.refusal.specs.Outcome.{accepted, refused, pick}
 use Rattle.refusal.proofs.Laws.{all_at}
 use Rattle.varint.specs.Number.{number_bytes}
@@ -108,19 +108,15 @@ module _ (r : TransportParameters) (w : well_formed r ≡ true) where
   pub all_lengths : sum 11 (number_length_at r.numbers) + others_length r ≡ sum places at
   all_lengths = let e = sum_eq 11 (number_length_at r.numbers) at number_at_lem in rw (e, others_at) (unfold sum in omega arith)
 
--- ANSWERS: t is the test of the record
-module _ (r : TransportParameters) (t : Bool) (e : t ≡ well_formed r) where
-  pub not_measured : not t ≡ true → refused 7 ≡ length_of r
+  -- what is returned
+  pub measured : (n m : ℕ) → n ≡ sum 11 (number_length_at r.numbers) → m ≡ others_length r → accepted (n + m) ≡ length_of r
   unfolding length_of
-  not_measured h = rw (← e, not-true t h)
+  measured n m f g = rw (w, f, g) (ap accepted all_lengths)
 
-  pub formed : not t ≡ false → well_formed r ≡ true
-  formed h = sym e ∙ not-false t h
-
-  pub eleven : not t ≡ false → length r.numbers ≡ 11
+  pub eleven : length r.numbers ≡ 11
   unfolding well_formed
-  eleven h = eqb-true _ _ (all_at _ (formed h) 0)
+  eleven = eqb-true _ _ (all_at _ w 0)
 
-  pub measured : not t ≡ false → (n m : ℕ) → n ≡ sum 11 (number_length_at r.numbers) → m ≡ others_length r → accepted (n + m) ≡ length_of r
-  unfolding length_of
-  measured h n m f g = rw (formed h, f, g) (ap accepted (all_lengths r (formed h)))
+pub not_measured : (r : TransportParameters) → well_formed r ≡ false → refused 7 ≡ length_of r
+unfolding length_of
+not_measured r h = rw h

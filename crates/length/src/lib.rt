@@ -104,6 +104,7 @@ fn others_length(r: TransportParameters) -> usize
 }
 
 // How many bytes writing the record stores, whatever order it has or will have.
+#[tactic(auto, using(crate::proofs::Lengths::measured, crate::proofs::Lengths::eleven, crate::proofs::Lengths::not_measured))]
 pub fn length(r: TransportParameters) -> Counted
     ensures { count_outcome result ≡ length_of r }
 {

@@ -102,6 +102,7 @@ fn put_all(
 }
 
 // It goes straight to a buffer that has room for any.
+#[tactic(auto, using(crate::proofs::Storing::laid_front, crate::proofs::Storing::kept_front, crate::proofs::Storing::put_front, crate::proofs::Storing::stored_front, crate::proofs::Storing::stored_none))]
 fn put_tidied<'a>(
     src: &[u8],
     marks: u32,

@@ -363,6 +363,7 @@ fn is_order(present: bool, order: &[u8; PLACES]) -> bool
 
 // Writes the record to the front of `out`, in its order. It is laid in an array first, so that the count is known before a byte of `out` is
 // touched.
+#[tactic(auto, using(crate::proofs::Answers::write_ill, crate::proofs::Answers::write_invalid), unfolding(crate::specs::Writing::order_of))]
 pub fn write(r: TransportParameters, out: &mut [u8]) -> Counted
     ensures { (count_outcome result, out.new) ≡ write r out.old }
 {

@@ -2,9 +2,9 @@
 use mathlib.Core.Path.{refl, ap, sym, ◌∙◌}
 use Rattle.catalogue.specs.Catalogue.{defaults}
 use Rattle.index.specs.Answer.{scan_outcome}
-use Rattle.index.specs.Index.{initial_kept, id_len, kept_rules}
+use Rattle.index.specs.Index.{initial_kept}
 use Rattle.index.proofs.Sound.{scan_sound, address_within}
-use Rattle.index.proofs.Settled.{stopped, illegal, allowed}
+use Rattle.index.proofs.Settled.{stopped}
 use Rattle.index.proofs.index.Goals as goal
 
 pub scan-requires : goal.scan-requires
@@ -18,25 +18,9 @@ is_allowed-requires c =
     let e = sym (ap (λ r. scan_outcome r x.new.kept x.new.lens) c.in-Marks.is) ∙ x.ensures in
     address_within a.src.now _ (scan_sound a.src.now _ e)
 
-pub returns-then-not-is_allowed : goal.returns-then-not-is_allowed
-unfolding kept_rules id_len
-returns-then-not-is_allowed c =
-    let a = c.args in
-    let x = c.scan in
-    let e = sym (ap (λ r. scan_outcome r x.new.kept x.new.lens) c.in-Marks.is) ∙ x.ensures in
-    c.refuse-then-not-is_allowed.ensures ∙ illegal a.side a.src.now _ e (sym c.if-not-is_allowed.true ∙ c.is_allowed.ensures)
-
 pub returns-in-Stopped : goal.returns-in-Stopped
 returns-in-Stopped c =
     let a = c.args in
     let x = c.scan in
     let e = sym (ap (λ r. scan_outcome r x.new.kept x.new.lens) c.in-Stopped.is) ∙ x.ensures in
     c.refuse.ensures ∙ stopped a.side a.src.now _ e
-
-pub returns-else-not-is_allowed : goal.returns-else-not-is_allowed
-unfolding kept_rules id_len
-returns-else-not-is_allowed c =
-    let a = c.args in
-    let x = c.scan in
-    let e = sym (ap (λ r. scan_outcome r x.new.kept x.new.lens) c.in-Marks.is) ∙ x.ensures in
-    allowed a.side a.src.now _ e (sym c.if-not-is_allowed.false ∙ c.is_allowed.ensures)

@@ -1,6 +1,6 @@
 -- `writer::write` meets its contract: the tests that led to each `return` pick the case of the definition. Assumes nothing.
 use native.Mathlib.Omega.{arith}
-use mathlib.Core.Path.{◌≡◌, refl, ap, sym, ◌∙◌}
+use mathlib.Core.Path.{◌≡◌, refl, ap, ◌∙◌}
 use mathlib.Core.Bool.{true}
 use mathlib.Core.List.{List}
 use Prim.Native.Nat.{ℕ, ◌+◌}
@@ -13,40 +13,31 @@ use Rattle.order.proofs.Orders.{in_catalogue}
 use Rattle.writer.proofs.Extension.{longest}
 use Rattle.writer.specs.Writing.{max_extension, order_of}
 use Rattle.writer.proofs.Places.{formed, in_catalogue_order}
-use Rattle.writer.proofs.Answers.{due, ready, write_ill, write_invalid, write_stored}
+use Rattle.writer.proofs.Answers.{due, ready, write_stored}
 use Rattle.writer.proofs.write.Goals as goal
-
-pub returns-then-not-is_well_formed : goal.returns-then-not-is_well_formed
-returns-then-not-is_well_formed c = write_ill _ _ (sym c.is_well_formed.ensures ∙ c.if-not-is_well_formed.true)
 
 pub is_order-requires : goal.is_order-requires
 is_order-requires c =
-    let well : well_formed c.args.r ≡ true = sym c.is_well_formed.ensures ∙ c.if-not-is_well_formed.false in
+    let well : well_formed c.args.r ≡ true = grind arith in
     (formed _ (well)).order
-
-pub returns-then-not-is_order : goal.returns-then-not-is_order
-unfolding order_of
-returns-then-not-is_order c =
-    let well : well_formed c.args.r ≡ true = sym c.is_well_formed.ensures ∙ c.if-not-is_well_formed.false in
-    write_invalid _ _ (well) (sym c.is_order.ensures ∙ c.if-not-is_order.true)
 
 pub put_catalogue-n-requires : goal.put_catalogue-n-requires
 put_catalogue-n-requires c =
-    let well : well_formed c.args.r ≡ true = sym c.is_well_formed.ensures ∙ c.if-not-is_well_formed.false in
+    let well : well_formed c.args.r ≡ true = grind arith in
     let w = well in (w, record { noted = refl; within = rw (in_catalogue_order c.args.r) (omega (arith, longest _ catalogue_order w in_catalogue)); long = omega arith; clear = zeros_replicate 346 })
 
 pub put_laid-requires : goal.put_laid-requires
 unfolding order_of
 put_laid-requires c =
-    let well : well_formed c.args.r ≡ true = sym c.is_well_formed.ensures ∙ c.if-not-is_well_formed.false in
-    let orderly : permutation (order_of c.args.r.write_order) ≡ true = sym c.is_order.ensures ∙ c.if-not-is_order.false in
+    let well : well_formed c.args.r ≡ true = grind arith in
+    let orderly : permutation (order_of c.args.r.write_order) ≡ true = grind arith in
     ready c.args.r (well) _ (replicate (max_extension + 32) 0) _ _ (omega arith) (orderly) c.put_catalogue-n.ensures (omega arith)
 
 pub returns : goal.returns
 unfolding order_of
 returns c =
-    let well : well_formed c.args.r ≡ true = sym c.is_well_formed.ensures ∙ c.if-not-is_well_formed.false in
-    let orderly : permutation (order_of c.args.r.write_order) ≡ true = sym c.is_order.ensures ∙ c.if-not-is_order.false in
+    let well : well_formed c.args.r ≡ true = grind arith in
+    let orderly : permutation (order_of c.args.r.write_order) ≡ true = grind arith in
     let a = c.args in
     let w = well in
     let p = orderly in
