@@ -14,7 +14,7 @@ ghost use Rattle.address.specs.Address.{address_bytes};
 use catalogue::PREFERRED_ADDRESS_ID;
 use connection_id::ConnectionId;
 use record::{PreferredAddress, ResetToken, SocketAddrV4, SocketAddrV6};
-use refusal::Counted;
+use refusal::Refusal;
 use wire::put_bytes;
 use words::size;
 
@@ -77,7 +77,7 @@ fn put_cid_and_token(cid: ConnectionId, token: ResetToken, out: &mut [u8]) -> us
     ensures { Wrote (17 + cid.len) (cid.len ∷ (cid_bytes cid ++ token.bytes)) out.old result out.new }
 {
     let bytes = token.bytes;
-    let Counted::Count(at) = cid.encode_long(out) else {
+    let Ok(at) = cid.encode_long(out) else {
         return 0;
     };
     at + put_bytes(&bytes, &mut out[at..])

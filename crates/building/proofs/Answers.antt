@@ -7,31 +7,15 @@ use native.Mathlib.Omega.{arith}
 use lib.ListN.{length}
 use lib.Dec.{leb, ltb}
 use borrow.Author.Tests.{le-leb, lt-leb, ltb-true, ltb-false, leb-true, eqb-true, not-true, not-false}
-use Rattle.refusal.specs.Outcome.{Outcome, accepted, refused}
-use Rattle.refusal.specs.Number.{number_of}
-use Rattle.refusal.specs.declared.Refusal.{Refusal}
+use Rattle.refusal.specs.Outcome.{accepted, refused}
 use Rattle.refusal.proofs.Laws.{all_at}
 use Rattle.varint.specs.Number.{bound}
 use Rattle.connection_id.specs.declared.ConnectionId.{ConnectionId}
 use Rattle.connection_id.specs.ConnectionId.{formed_cid}
-use Rattle.record.specs.declared.TransportParameters.{TransportParameters}
-use Rattle.record.specs.Record.{default_record}
 use Rattle.order.specs.Order.{permutation}
 use Rattle.catalogue.specs.Catalogue.{places}
 use Rattle.building.specs.declared.Settings.{Settings}
-use Rattle.refusal.specs.declared.Answer.TheVariants.{Refused}
-use Rattle.building.specs.declared.Built.{Built}
 use Rattle.building.specs.Building.{settings_fit, draw_fits, reserved_from, order_from, record_from, build}
-use Rattle.refusal.specs.Answer.{answer_outcome, settled_by}
-use Rattle.building.specs.Answer.{made_of}
-
--- the settled answers
-pub refused_with_lem : (b : Built) (e : Refusal) (o : Outcome TransportParameters) → b ≡ made_of (Refused e) default_record → o ≡ refused (number_of e)
-    → (answer_outcome b.parameters b.answer, b.parameters) ≡ settled_by default_record o
-refused_with_lem b e o h k = rw (h, k)
-
-pub accepted_with : (r v : TransportParameters) (o : Outcome TransportParameters) → r ≡ v → o ≡ accepted v → (accepted r, r) ≡ settled_by default_record o
-accepted_with r v o h k = rw (h, k)
 
 -- at most 15 bytes
 pub below_sixteen : (n : ℕ) → ltb n 16 ≡ leb n 15

@@ -17,8 +17,8 @@ use Rattle.connection_id.specs.declared.ConnectionId.{ConnectionId}
 use Rattle.connection_id.specs.ConnectionId.{formed_cid}
 use Rattle.words.proofs.Laws.{zeros_replicate}
 use Rattle.record.specs.declared.TransportParameters.{TransportParameters}
-use Rattle.record.specs.declared.OptionalNumber.{OptionalNumber}
-use Rattle.record.specs.declared.OptionalNumber.TheVariants.{Absent, Present}
+use Rattle.record.specs.Optional.{OptionalNumber}
+use Rattle.std.specs.Prelude.{None, Some}
 use Rattle.record.specs.declared.OptionalConnectionId.{OptionalConnectionId}
 use Rattle.catalogue.specs.Catalogue.{defaults}
 use Rattle.record.specs.Values.{no_values}
@@ -59,10 +59,10 @@ numbers_below s h =
 
 size_formed : (o : OptionalNumber) → formed_optional (cut_size o) ≡ true
 unfolding formed_optional cut_size
-size_formed Absent = refl
-size_formed (Present x) = lt-ltb (min x 65535) bound (omega (arith, min-le_right x 65535))
+size_formed None = refl
+size_formed (Some x) = lt-ltb (min x 65535) bound (omega (arith, min-le_right x 65535))
 
-delay_formed : formed_optional (Present 1000) ≡ true
+delay_formed : formed_optional (Some 1000) ≡ true
 unfolding formed_optional
 delay_formed = refl
 

@@ -5,8 +5,8 @@ use Rattle.varint.specs.Number.{bound}
 use Rattle.connection_id.specs.declared.ConnectionId.{ConnectionId}
 use Rattle.connection_id.specs.ConnectionId.{formed_cid}
 use Rattle.record.specs.declared.TransportParameters.{TransportParameters}
-use Rattle.record.specs.declared.OptionalNumber.{OptionalNumber}
-use Rattle.record.specs.declared.OptionalNumber.TheVariants.{Absent, Present}
+use Rattle.record.specs.Optional.{OptionalNumber}
+use Rattle.std.specs.Prelude.{None, Some}
 use Rattle.record.specs.declared.ReservedTransportParameter.{ReservedTransportParameter}
 use Rattle.record.specs.declared.WriteOrder.{WriteOrder}
 use Rattle.catalogue.specs.Catalogue.{defaults}
@@ -36,8 +36,8 @@ id_limit n = pick (eqb n 0) 2 5
 
 -- max_datagram_frame_size (RFC 9221 section 3): at most 65,535
 unfoldable pub cut_size : OptionalNumber → OptionalNumber
-cut_size Absent = Absent
-cut_size (Present x) = Present (min x 65535)
+cut_size None = None
+cut_size (Some x) = Some (min x 65535)
 
 -- places 0 to 10, with the active_connection_id_limit. An absent idle timeout is 0, no timeout (RFC 9000 section 10.1); the stream window
 -- is that of all three kinds of stream; ack_delay_exponent and max_ack_delay have their defaults
@@ -85,7 +85,7 @@ record_from s cid reserved order =
       max_datagram_frame_size = cut_size s.datagram_receive_buffer_size;
       initial_src_cid = record { present = true; cid = cid };
       grease_quic_bit = s.grease_quic_bit;
-      min_ack_delay = Present 1000;
+      min_ack_delay = Some 1000;
       original_dst_cid = default_record.original_dst_cid;
       retry_src_cid = default_record.retry_src_cid;
       stateless_reset_token = default_record.stateless_reset_token;

@@ -6,21 +6,19 @@ ghost use Rattle.std.specs.Prelude.{◌≡◌, ◌&&◌, not, ◌-◌, ◌≤◌
 ghost use Rattle.refusal.specs.Outcome.{pick};
 ghost use Rattle.varint.specs.Number.{bound};
 ghost use Rattle.catalogue.specs.Catalogue.{places};
-ghost use Rattle.record.specs.Record.{default_record};
 ghost use Rattle.rules.specs.Rules.{is_server};
 ghost use Rattle.building.specs.Building.{settings_fit, cut_size, numbers_from, draw_fits, reserved_id, reserved_from, order_from, record_from, build};
-ghost use Rattle.building.specs.Answer.{made_of};
-ghost use Rattle.refusal.specs.Answer.{answer_outcome, settled_by};
+ghost use Rattle.refusal.specs.Answer.{outcome_of};
 
 use catalogue::{
     ACK_DELAY_EXPONENT, ACTIVE_CONNECTION_ID_LIMIT, DEFAULTS, MAX_ACK_DELAY, NUMBERS, PLACES,
 };
 use connection_id::ConnectionId;
 use record::{
-    OptionalConnectionId, OptionalNumber, OptionalResetToken, PreferredAddress,
-    ReservedTransportParameter, TransportParameters, WriteOrder,
+    OptionalConnectionId, OptionalResetToken, PreferredAddress, ReservedTransportParameter,
+    TransportParameters, WriteOrder,
 };
-use refusal::{Answer, Refusal};
+use refusal::Refusal;
 use rules::Side;
 use varint::VarInt;
 use words::{and, minimum};
@@ -33,22 +31,15 @@ pub struct Settings {
     pub receive_window: u64,
     pub stream_receive_window: u64,
     // in milliseconds
-    pub max_idle_timeout: OptionalNumber,
+    pub max_idle_timeout: Option<u64>,
     pub max_udp_payload_size: u64,
     pub grease_quic_bit: bool,
-    pub datagram_receive_buffer_size: OptionalNumber,
+    pub datagram_receive_buffer_size: Option<u64>,
     // the length of the IDs that are generated
     pub cid_len: usize,
     pub side: Side,
     // whether a server allows migration
     pub migration: bool,
-}
-
-// The answer, and the record: the default one if refused.
-#[derive(Clone, Copy)]
-pub struct Built {
-    pub answer: Answer,
-    pub parameters: TransportParameters,
 }
 
 // The active_connection_id_limit where IDs are not empty.
@@ -68,7 +59,7 @@ fn settings_fit(s: Settings) -> bool
 {
     let idle = s.max_idle_timeout;
     let rest = and(
-        idle.or_zero() <= VarInt::MAX.0,
+        idle.unwrap_or(0) <= VarInt::MAX.0,
         s.max_udp_payload_size <= VarInt::MAX.0,
     );
     let windows = and(
@@ -93,12 +84,12 @@ fn cid_limit(empty: bool) -> u64
 }
 
 // A datagram size, cut to what is sent at most.
-fn cut_size(o: OptionalNumber) -> OptionalNumber
+fn cut_size(o: Option<u64>) -> Option<u64>
     ensures { result ≡ cut_size o }
 {
     match o {
-        OptionalNumber::Absent => OptionalNumber::Absent,
-        OptionalNumber::Present(x) => OptionalNumber::Present(minimum(x, MAX_DATAGRAM_SIZE)),
+        None => None,
+        Some(x) => Some(minimum(x, MAX_DATAGRAM_SIZE)),
     }
 }
 
@@ -172,7 +163,7 @@ fn numbers_of(s: Settings, limit: u64) -> [u64; NUMBERS]
     let idle = s.max_idle_timeout;
     let window = s.stream_receive_window;
     [
-        idle.or_zero(),
+        idle.unwrap_or(0),
         s.max_udp_payload_size,
         s.receive_window,
         window,
@@ -204,23 +195,13 @@ fn record_of(
         max_datagram_frame_size: cut_size(size),
         initial_src_cid: OptionalConnectionId { present: true, cid },
         grease_quic_bit: s.grease_quic_bit,
-        min_ack_delay: OptionalNumber::Present(TIMER_GRANULARITY),
+        min_ack_delay: Some(TIMER_GRANULARITY),
         original_dst_cid: OptionalConnectionId::absent(),
         retry_src_cid: OptionalConnectionId::absent(),
         stateless_reset_token: OptionalResetToken::absent(),
         preferred_address: PreferredAddress::absent(),
         grease_transport_parameter: reserved,
         write_order: order,
-    }
-}
-
-// A refusal, with the default record.
-fn refuse(refusal: Refusal) -> Built
-    ensures { result ≡ made_of (Answer.Refused refusal) default_record }
-{
-    Built {
-        answer: Answer::Refused(refusal),
-        parameters: TransportParameters::default(),
     }
 }
 
@@ -231,25 +212,22 @@ pub fn new(
     draw: u64,
     payload: &[u8],
     order: &[u8],
-) -> Built
-    ensures { (answer_outcome result.parameters result.answer, result.parameters) ≡ settled_by default_record (build settings initial_src_cid draw payload.now order.now) }
+) -> Result<TransportParameters, Refusal>
+    ensures { outcome_of result ≡ build settings initial_src_cid draw payload.now order.now }
 {
     if !settings_fit(settings) {
-        return refuse(Refusal::VarIntBoundsExceeded);
+        return Err(Refusal::VarIntBoundsExceeded);
     }
     if !initial_src_cid.is_well_formed() {
-        return refuse(Refusal::IllFormed);
+        return Err(Refusal::IllFormed);
     }
     if !draw_fits(draw, payload) {
-        return refuse(Refusal::InvalidDraw);
+        return Err(Refusal::InvalidDraw);
     }
     if !order::is_permutation(order) {
-        return refuse(Refusal::InvalidOrder);
+        return Err(Refusal::InvalidOrder);
     }
     let reserved = reserved_of(draw, payload);
     let places = order_of(order);
-    Built {
-        answer: Answer::Accepted,
-        parameters: record_of(settings, initial_src_cid, reserved, places),
-    }
+    Ok(record_of(settings, initial_src_cid, reserved, places))
 }

@@ -21,9 +21,9 @@ formed_cid c = all (eqb (length c.bytes) 20 ∷ leb c.len 20 ∷ zeros (drop c.l
 unfoldable pub same_cid : ConnectionId → ConnectionId → Bool
 same_cid c d = eqb c.len d.len && same_bytes c.bytes d.bytes
 
--- the ID of bytes handed in: 7 for more than 20, else the ID and how many they are
-unfoldable pub make_cid : List ℕ → Outcome (ConnectionId × ℕ)
-make_cid v = pick (leb (length v) 20) (accepted (cid_of v, length v)) (refused 7)
+-- the ID of bytes handed in: 7 for more than 20
+unfoldable pub make_cid : List ℕ → Outcome ConnectionId
+make_cid v = pick (leb (length v) 20) (accepted (cid_of v)) (refused 7)
 
 -- the ID behind its length byte: 1 if there is no length byte, it exceeds 20, or fewer bytes follow; else the ID and its byte count
 unfoldable pub read_cid : List ℕ → Outcome (ConnectionId × ℕ)

@@ -1,2 +1,1 @@
 pub mod ConnectionId
-pub mod Answer

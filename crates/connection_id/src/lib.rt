@@ -5,25 +5,17 @@ ghost use Rattle.std.specs.Prelude.{◌≡◌, [], ◌+◌, ◌≤◌, ◌<◌, 
 ghost use Rattle.std.proofs.Math.Seq.{paste};
 ghost use Rattle.words.specs.Words.{zeros};
 ghost use Rattle.connection_id.specs.ConnectionId.{cid_of, formed_cid, same_cid, make_cid, read_cid, write_cid};
-ghost use Rattle.connection_id.specs.Answer.{made_of, read_outcome, settled};
-ghost use Rattle.refusal.specs.Answer.{count_outcome};
+ghost use Rattle.refusal.specs.Answer.{outcome_of};
 
-use refusal::{Counted, Refusal};
+use refusal::Refusal;
 use words::{and, same20, zero20_from};
 
-#[derive(Clone, Copy)]
+#[derive(Clone, Copy, Debug, PartialEq, Eq)]
 pub struct ConnectionId {
     // how many bytes the ID has
     pub len: u8,
     // the ID, then zeros
     pub bytes: [u8; 20],
-}
-
-// The answer of reading, and the ID: the empty one if refused.
-#[derive(Clone, Copy)]
-pub struct DecodedCid {
-    pub answer: Counted,
-    pub cid: ConnectionId,
 }
 
 impl ConnectionId {
@@ -41,16 +33,13 @@ impl ConnectionId {
     }
 
     // The ID of these bytes, of which there are at most 20.
-    pub fn new(bytes: &[u8]) -> DecodedCid
-        ensures { (read_outcome result, result.cid) ≡ settled (make_cid bytes.now) }
+    pub fn new(bytes: &[u8]) -> Result<ConnectionId, Refusal>
+        ensures { outcome_of result ≡ make_cid bytes.now }
     {
         if ConnectionId::MAX_SIZE < bytes.len() {
-            return refuse(Refusal::IllFormed);
+            return Err(Refusal::IllFormed);
         }
-        DecodedCid {
-            answer: Counted::Count(bytes.len()),
-            cid: cid_of(bytes),
-        }
+        Ok(cid_of(bytes))
     }
 
     // At most 20 bytes, and zeros after them.
@@ -75,53 +64,40 @@ impl ConnectionId {
     }
 
     // The ID behind the length byte at the front of `src`.
-    #[tactic(auto, using(crate::proofs::Answers::refused_none, crate::proofs::Answers::refused_long, crate::proofs::Answers::refused_short, crate::proofs::Answers::accepted_whole))]
-    pub fn decode_long(src: &[u8]) -> DecodedCid
-        ensures { (read_outcome result, result.cid) ≡ settled (read_cid src.now) }
+    #[tactic(auto, using(crate::proofs::Answers::read_none, crate::proofs::Answers::read_long, crate::proofs::Answers::read_short, crate::proofs::Answers::read_whole))]
+    pub fn decode_long(src: &[u8]) -> Result<(ConnectionId, usize), Refusal>
+        ensures { outcome_of result ≡ read_cid src.now }
     {
         if src.len() == 0 {
-            return refuse(Refusal::Malformed);
+            return Err(Refusal::Malformed);
         }
         let n = src[0] as usize;
         if ConnectionId::MAX_SIZE < n {
-            return refuse(Refusal::Malformed);
+            return Err(Refusal::Malformed);
         }
         let end = n + 1;
         if src.len() < end {
-            return refuse(Refusal::Malformed);
+            return Err(Refusal::Malformed);
         }
-        DecodedCid {
-            answer: Counted::Count(end),
-            cid: cid_of(&src[1..end]),
-        }
+        Ok((cid_of(&src[1..end]), end))
     }
 
     // Writes the length byte and the ID to the front of `out`.
-    pub fn encode_long(self, out: &mut [u8]) -> Counted
-        ensures { (count_outcome result, out.new) ≡ write_cid self out.old }
+    pub fn encode_long(self, out: &mut [u8]) -> Result<usize, Refusal>
+        ensures { (outcome_of result, out.new) ≡ write_cid self out.old }
     {
         if !self.is_well_formed() {
-            return Counted::Refused(Refusal::IllFormed);
+            return Err(Refusal::IllFormed);
         }
         let n = self.len as usize;
         let end = n + 1;
         if out.len() < end {
-            return Counted::Refused(Refusal::BufferTooShort);
+            return Err(Refusal::BufferTooShort);
         }
         let bytes = self.bytes;
         out[0] = self.len;
         put(n, &bytes, out);
-        Counted::Count(end)
-    }
-}
-
-// A refusal, with the empty ID.
-fn refuse(refusal: Refusal) -> DecodedCid
-    ensures { result ≡ made_of (Counted.Refused refusal) (cid_of []) }
-{
-    DecodedCid {
-        answer: Counted::Refused(refusal),
-        cid: ConnectionId::empty(),
+        Ok(end)
     }
 }
 

@@ -7,8 +7,8 @@ use Rattle.refusal.specs.Outcome.{Outcome, accepted, refused}
 use Rattle.varint.specs.Number.{bound}
 use Rattle.connection_id.specs.ConnectionId.{cid_of}
 use Rattle.record.specs.declared.TransportParameters.{TransportParameters}
-use Rattle.record.specs.declared.OptionalNumber.{OptionalNumber}
-use Rattle.record.specs.declared.OptionalNumber.TheVariants.{Absent, Present}
+use Rattle.record.specs.Optional.{OptionalNumber}
+use Rattle.std.specs.Prelude.{None, Some}
 use Rattle.record.specs.declared.WriteOrder.{WriteOrder}
 use Rattle.rules.specs.declared.Side.{Side}
 use Rattle.rules.specs.declared.Side.TheVariants.{Client, Server}
@@ -54,7 +54,7 @@ with numbers original grease delay order =
     record {
       numbers = numbers;
       disable_active_migration = false;
-      max_datagram_frame_size = Absent;
+      max_datagram_frame_size = None;
       initial_src_cid = record { present = false; cid = cid_of [] };
       grease_quic_bit = grease;
       min_ack_delay = delay;
@@ -78,7 +78,7 @@ abbrev pub numbers : ℕ → ℕ → ℕ → List ℕ
 numbers idle payload delay = idle ∷ payload ∷ 0 ∷ 0 ∷ 0 ∷ 0 ∷ 0 ∷ 0 ∷ 3 ∷ delay ∷ 2 ∷ []
 
 abbrev pub plain : List ℕ → TransportParameters
-plain ns = with ns false false Absent no_order
+plain ns = with ns false false None no_order
 
 -- the default record with a datagram size
 abbrev pub datagrams : OptionalNumber → TransportParameters
@@ -137,18 +137,18 @@ examples =
     ∷  -- (k)
     reading Client (0x1b ∷ 0x03 ∷ 0xaa ∷ 0xbb ∷ 0xcc ∷ []) (accepted default_record)
     ∷  -- (l)
-    reading Client (0x00 ∷ 0x00 ∷ []) (accepted (with (numbers 0 65527 25) true false Absent no_order))
+    reading Client (0x00 ∷ 0x00 ∷ []) (accepted (with (numbers 0 65527 25) true false None no_order))
     ∷ reading Server (0x00 ∷ 0x00 ∷ []) (refused 2)
     ∷  -- (m)
     reading Client (0xc0 ∷ 0x00 ∷ 0x00 ∷ 0x00 ∷ 0xff ∷ 0x04 ∷ 0xde ∷ 0x1b ∷ 0x04 ∷ 0x80 ∷ 0x00 ∷ 0x61 ∷ 0xa8 ∷ [])
-    (accepted (with (numbers 0 65527 25) false false (Present 25000) no_order))
+    (accepted (with (numbers 0 65527 25) false false (Some 25000) no_order))
     ∷ reading Client (0xc0 ∷ 0x00 ∷ 0x00 ∷ 0x00 ∷ 0xff ∷ 0x04 ∷ 0xde ∷ 0x1b ∷ 0x04 ∷ 0x80 ∷ 0x00 ∷ 0x61 ∷ 0xa9 ∷ []) (refused 2)
     ∷  -- (n)
-    writing (with (numbers 30000 65527 25) false true Absent reversed) (0x6a ∷ 0xb2 ∷ 0x00 ∷ 0x01 ∷ 0x04 ∷ 0x80 ∷ 0x00 ∷ 0x75 ∷ 0x30 ∷ [])
+    writing (with (numbers 30000 65527 25) false true None reversed) (0x6a ∷ 0xb2 ∷ 0x00 ∷ 0x01 ∷ 0x04 ∷ 0x80 ∷ 0x00 ∷ 0x75 ∷ 0x30 ∷ [])
     ∷  -- and its length, in that order, before one is drawn and with one that is no permutation; a default; a number of 2 ^ 62
-    measuring (with (numbers 30000 65527 25) false true Absent reversed) (accepted 9)
-    ∷ measuring (with (numbers 30000 65527 25) false true Absent no_order) (accepted 9)
-    ∷ measuring (with (numbers 30000 65527 25) false true Absent nowhere) (accepted 9)
+    measuring (with (numbers 30000 65527 25) false true None reversed) (accepted 9)
+    ∷ measuring (with (numbers 30000 65527 25) false true None no_order) (accepted 9)
+    ∷ measuring (with (numbers 30000 65527 25) false true None nowhere) (accepted 9)
     ∷ measuring default_record (accepted 0)
     ∷ measuring (plain (numbers bound 65527 25)) (refused 7)
     ∷  -- second copies (request 02): grease_quic_bit, min_ack_delay, and a preferred address that would be 2 by itself; unknown ones are skipped
@@ -158,8 +158,8 @@ examples =
     ∷ reading Client (addressed 0) (refused 2)
     ∷ reading Client (0x1b ∷ 0x00 ∷ 0x1b ∷ 0x00 ∷ []) (accepted default_record)
     ∷  -- other orders (request 03): (b), an unknown parameter in a longer form and grease_quic_bit
-    reading Client (idle ++ (unknown ++ grease)) (accepted (with (numbers 30000 65527 25) false true Absent no_order))
-    ∷ reading Client (grease ++ (idle ++ unknown)) (accepted (with (numbers 30000 65527 25) false true Absent no_order))
+    reading Client (idle ++ (unknown ++ grease)) (accepted (with (numbers 30000 65527 25) false true None no_order))
+    ∷ reading Client (grease ++ (idle ++ unknown)) (accepted (with (numbers 30000 65527 25) false true None no_order))
     ∷  -- faults of an order (request 04): a repeat; an entry out of range before one; nothing there; an entry missing; none; one too many
     ordering (3 ∷ 1 ∷ 4 ∷ 1 ∷ 5 ∷ []) (some 3)
     ∷ ordering (7 ∷ 21 ∷ 7 ∷ []) (some 1)
@@ -168,10 +168,10 @@ examples =
     ∷ ordering reversed.places none
     ∷ ordering (reversed.places ++ (0 ∷ [])) (some 21)
     ∷  -- datagram sizes (request 05): for resumption absent is 0, and less than 1; reading and writing tell it from 0
-    resuming (datagrams Absent) (datagrams (Present 0)) (accepted tt)
-    ∷ resuming (datagrams (Present 0)) (datagrams Absent) (accepted tt)
-    ∷ resuming (datagrams Absent) (datagrams (Present 1)) (refused 8)
-    ∷ reading Client (0x20 ∷ 0x01 ∷ 0x00 ∷ []) (accepted (datagrams (Present 0)))
-    ∷ writing (datagrams (Present 0)) (0x20 ∷ 0x01 ∷ 0x00 ∷ [])
-    ∷ writing (datagrams Absent) []
+    resuming (datagrams None) (datagrams (Some 0)) (accepted tt)
+    ∷ resuming (datagrams (Some 0)) (datagrams None) (accepted tt)
+    ∷ resuming (datagrams None) (datagrams (Some 1)) (refused 8)
+    ∷ reading Client (0x20 ∷ 0x01 ∷ 0x00 ∷ []) (accepted (datagrams (Some 0)))
+    ∷ writing (datagrams (Some 0)) (0x20 ∷ 0x01 ∷ 0x00 ∷ [])
+    ∷ writing (datagrams None) []
     ∷ []

@@ -9,15 +9,12 @@ use catalogue::{
     MAX_UDP_PAYLOAD_SIZE, MIN_ACK_DELAY, NAMES, ORIGINAL_DST_CID, PLACES, PREFERRED_ADDRESS,
     RETRY_SRC_CID, STATELESS_RESET_TOKEN,
 };
-use front::{Fault, Parameter};
-use index::Scanned;
+use front::Fault;
 use marks::{is_marked, with_mark};
-use order::OrderFault;
 use refusal::Refusal;
 use rules::Side;
 use text::out::{Out, note, note_hex, note_line, note_number};
 use text::word;
-use value::Value;
 use words::{size, wide};
 
 // The parameter at fault: where it starts, its identifier, and what is wrong.
@@ -44,12 +41,7 @@ refused 9: a drawn value is out of range";
 
 // Whether an extension is refused.
 fn is_broken(side: Side, src: &[u8]) -> bool {
-    let entries = index::index(side, src);
-    let found = entries.found;
-    match found {
-        Scanned::Marks(_) => false,
-        Scanned::Stopped(_) => true,
-    }
+    index::index(side, src).is_err()
 }
 
 // Whether a parameter may be the one that breaks a value rule: it does so by itself, or is min_ack_delay, which is held to max_ack_delay.
@@ -72,14 +64,18 @@ fn front_at(src: &[u8], at: usize) -> Front
     requires { at ≤ length src.now }
     ensures { (result.start ≤ result.end) × (result.end ≤ length src.now) }
 {
-    let Parameter::Whole(id, start, end) = front::parameter_at(src, at) else {
+    let Ok(p) = front::parameter_at(src, at) else {
         return Front {
             id: 0,
             start: 0,
             end: 0,
         };
     };
-    Front { id, start, end }
+    Front {
+        id: p.id,
+        start: p.start,
+        end: p.end,
+    }
 }
 
 // The culprit of an extension that is refused: the first fault from the front, as reading finds it. If there is none, a value rule is broken:
@@ -108,7 +104,7 @@ fn locate(side: Side, src: &[u8]) -> Culprit {
                 end - start,
                 &src[start..],
             );
-            if let Value::Wrong(fault) = v {
+            if let Err(fault) = v {
                 return Culprit { at, id, fault };
             }
             met = with_mark(met, place);
@@ -205,7 +201,7 @@ pub fn note_culprit(out: &mut Out, side: Side, src: &[u8]) {
 
 // The first fault of an order: its position and, unless entries are only missing, the entry there.
 pub fn note_order_fault(out: &mut Out, order: &[u8]) {
-    let OrderFault::At(i) = order::order_fault(order) else {
+    let Some(i) = order::order_fault(order) else {
         return;
     };
     note(out, b"at position ");

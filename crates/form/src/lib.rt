@@ -192,7 +192,7 @@ fn put_lines(text: &[u8], out: &mut [u8]) -> Slip {
 
 // The image of the record that says nothing.
 fn clear(out: &mut [u8]) {
-    image::image_to(TransportParameters::default(), out);
+    let _ = image::image_to(TransportParameters::default(), out);
 }
 
 // The image of the record that a text says; tells whether each line is understood, and complains if not.

@@ -6,10 +6,10 @@ ghost use Rattle.front.specs.Parameter.{located};
 ghost use Rattle.front.specs.Answer.{refused_with, parameter_outcome};
 
 use refusal::Refusal;
-use varint::{Decoded, VarInt};
+use varint::VarInt;
 
 // What can be wrong with a parameter.
-#[derive(Clone, Copy)]
+#[derive(Clone, Copy, Debug, PartialEq, Eq)]
 pub enum Fault {
     // an identifier or length that cannot be read, or a length beyond what is left
     Cut,
@@ -21,12 +21,12 @@ pub enum Fault {
     Illegal,
 }
 
-impl Fault {
-    // The refusal that a fault travels as.
-    pub fn refusal(self) -> Refusal
-        ensures { result ≡ refused_with self }
-    {
-        match self {
+// The refusal that a fault travels as.
+impl From<Fault> for Refusal {
+    ghost from_gives = { λ f r. r ≡ refused_with f };
+
+    fn from(fault: Fault) -> Refusal {
+        match fault {
             Fault::Cut => Refusal::Malformed,
             Fault::SecondCopy => Refusal::Malformed,
             Fault::Misfit => Refusal::Malformed,
@@ -35,19 +35,20 @@ impl Fault {
     }
 }
 
-// The parameter at a position: its identifier, and where its value starts and ends; or none that is whole.
-#[derive(Clone, Copy)]
-pub enum Parameter {
-    Whole(u64, usize, usize),
-    Broken,
+// A parameter of an extension: its identifier, and where its value starts and ends.
+#[derive(Clone, Copy, Debug, PartialEq, Eq)]
+pub struct Parameter {
+    pub id: u64,
+    pub start: usize,
+    pub end: usize,
 }
 
-// An identifier and a length of one byte each stand apart: most are.
-pub fn parameter_at(src: &[u8], at: usize) -> Parameter
+// The parameter at a position. An identifier and a length of one byte each stand apart: most are.
+pub fn parameter_at(src: &[u8], at: usize) -> Result<Parameter, Fault>
     ensures { parameter_outcome result ≡ located src.now at }
 {
     if src.len() < at {
-        return Parameter::Broken;
+        return Err(Fault::Cut);
     }
     let left = src.len() - at;
     if 2 <= left {
@@ -57,30 +58,38 @@ pub fn parameter_at(src: &[u8], at: usize) -> Parameter
             let start = at + 2;
             let n = len as usize;
             if n <= left - 2 {
-                return Parameter::Whole(id as u64, start, start + n);
+                return Ok(Parameter {
+                    id: id as u64,
+                    start,
+                    end: start + n,
+                });
             }
-            return Parameter::Broken;
+            return Err(Fault::Cut);
         }
     }
     any_parameter_at(src, at)
 }
 
-fn any_parameter_at(src: &[u8], at: usize) -> Parameter
+fn any_parameter_at(src: &[u8], at: usize) -> Result<Parameter, Fault>
     requires { at ≤ length src.now }
     ensures { parameter_outcome result ≡ located src.now at }
 {
-    let Decoded::Value(id, n) = VarInt::decode(&src[at..]) else {
-        return Parameter::Broken;
+    let Ok((id, n)) = VarInt::decode(&src[at..]) else {
+        return Err(Fault::Cut);
     };
     let b = at + n;
-    let Decoded::Value(len, m) = VarInt::decode(&src[b..]) else {
-        return Parameter::Broken;
+    let Ok((len, m)) = VarInt::decode(&src[b..]) else {
+        return Err(Fault::Cut);
     };
     let start = b + m;
     let left = src.len() - start;
     if len <= left as u64 {
-        Parameter::Whole(id, start, start + (len as usize))
+        Ok(Parameter {
+            id,
+            start,
+            end: start + (len as usize),
+        })
     } else {
-        Parameter::Broken
+        Err(Fault::Cut)
     }
 }

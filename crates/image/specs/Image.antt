@@ -5,8 +5,8 @@ use Rattle.refusal.specs.Outcome.{Outcome, accepted, refused, pick, all}
 use Rattle.words.specs.Words.{every, value_from, bytes_of}
 use Rattle.connection_id.specs.declared.ConnectionId.{ConnectionId}
 use Rattle.record.specs.declared.TransportParameters.{TransportParameters}
-use Rattle.record.specs.declared.OptionalNumber.{OptionalNumber}
-use Rattle.record.specs.declared.OptionalNumber.TheVariants.{Absent, Present}
+use Rattle.record.specs.Optional.{OptionalNumber}
+use Rattle.std.specs.Prelude.{None, Some}
 use Rattle.record.specs.declared.OptionalConnectionId.{OptionalConnectionId}
 use Rattle.record.specs.declared.OptionalResetToken.{OptionalResetToken}
 use Rattle.record.specs.declared.PreferredAddress.{PreferredAddress}
@@ -100,7 +100,7 @@ numbers_at zero at s = []
 numbers_at (suc n) at s = number_at at 8 s ∷ numbers_at n (at + 8) s
 
 unfoldable pub optional_at : ℕ → List ℕ → OptionalNumber
-optional_at at s = pick (flag_at at s) (Present (number_at (at + 1) 8 s)) Absent
+optional_at at s = pick (flag_at at s) (Some (number_at (at + 1) 8 s)) None
 
 unfoldable pub cid_at : ℕ → List ℕ → ConnectionId
 cid_at at s = record { len = get_or s at 0; bytes = part (at + 1) 20 s }

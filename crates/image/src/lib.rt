@@ -3,7 +3,7 @@
 
 ghost use Rattle.std.specs.Prelude.{◌≡◌, ◌∷◌, ◌+◌, ◌≤◌, length};
 ghost use Rattle.std.proofs.lemmas.List.Edits.{sets};
-ghost use Rattle.refusal.specs.Answer.{count_outcome};
+ghost use Rattle.refusal.specs.Answer.{outcome_of};
 ghost use Rattle.refusal.specs.Outcome.{store};
 ghost use Rattle.record.specs.Record.{is_present, least};
 ghost use Rattle.image.specs.Image.{record_size, flag_byte, eight_bytes, numbers_image, cid_image, optional_cid_parts, family_parts, address_parts, joined, front_parts, id_parts, rest_parts, image_of};
@@ -11,10 +11,10 @@ ghost use Rattle.image.specs.Image.{record_size, flag_byte, eight_bytes, numbers
 use catalogue::NUMBERS;
 use connection_id::ConnectionId;
 use record::{
-    OptionalConnectionId, OptionalNumber, OptionalResetToken, PreferredAddress,
-    ReservedTransportParameter, TransportParameters, WriteOrder,
+    OptionalConnectionId, OptionalResetToken, PreferredAddress, ReservedTransportParameter,
+    TransportParameters, WriteOrder,
 };
-use refusal::{Counted, Refusal};
+use refusal::Refusal;
 use words::{bytes8, low};
 
 // The sizes of the images, in bytes.
@@ -62,12 +62,12 @@ fn put_numbers(numbers: &[u64; NUMBERS], out: &mut [u8])
     }
 }
 
-fn put_optional(o: OptionalNumber, at: usize, out: &mut [u8])
+fn put_optional(o: Option<u64>, at: usize, out: &mut [u8])
     requires { at + 9 ≤ length out.old }
     ensures { out.new ≡ sets out.old at (flag_byte (is_present o) ∷ eight_bytes (least o)) }
 {
-    let bytes = bytes8(o.or_zero());
-    put_behind(flag_byte(o.is_present()), &bytes, at, out);
+    let bytes = bytes8(o.unwrap_or(0));
+    put_behind(flag_byte(o.is_some()), &bytes, at, out);
 }
 
 fn put_optional_cid(o: OptionalConnectionId, at: usize, out: &mut [u8])
@@ -95,8 +95,8 @@ fn put_front(
     numbers: &[u64; NUMBERS],
     migration: bool,
     grease: bool,
-    size: OptionalNumber,
-    delay: OptionalNumber,
+    size: Option<u64>,
+    delay: Option<u64>,
     out: &mut [u8],
 )
     requires { (length numbers.now ≡ 11) × (record_size ≤ length out.old) }
@@ -154,11 +154,11 @@ fn put_rest(reserved: ReservedTransportParameter, order: WriteOrder, out: &mut [
 }
 
 // Stores the image of a record at the front of `out`.
-pub fn image_to(r: TransportParameters, out: &mut [u8]) -> Counted
-    ensures { (count_outcome result, out.new) ≡ store (image_of r) out.old }
+pub fn image_to(r: TransportParameters, out: &mut [u8]) -> Result<usize, Refusal>
+    ensures { (outcome_of result, out.new) ≡ store (image_of r) out.old }
 {
     if out.len() < RECORD_SIZE {
-        return Counted::Refused(Refusal::BufferTooShort);
+        return Err(Refusal::BufferTooShort);
     }
     let numbers = r.numbers;
     let size = r.max_datagram_frame_size;
@@ -180,17 +180,17 @@ pub fn image_to(r: TransportParameters, out: &mut [u8]) -> Counted
     );
     put_address(r.preferred_address, out);
     put_rest(r.grease_transport_parameter, r.write_order, out);
-    Counted::Count(RECORD_SIZE)
+    Ok(RECORD_SIZE)
 }
 
 // Stores the image of a connection ID at the front of `out`.
-pub fn cid_to(c: ConnectionId, out: &mut [u8]) -> Counted
-    ensures { (count_outcome result, out.new) ≡ store (cid_image c) out.old }
+pub fn cid_to(c: ConnectionId, out: &mut [u8]) -> Result<usize, Refusal>
+    ensures { (outcome_of result, out.new) ≡ store (cid_image c) out.old }
 {
     if out.len() < CID_SIZE {
-        return Counted::Refused(Refusal::BufferTooShort);
+        return Err(Refusal::BufferTooShort);
     }
     let bytes = c.bytes;
     put_behind(c.len, &bytes, 0, out);
-    Counted::Count(CID_SIZE)
+    Ok(CID_SIZE)
 }

@@ -20,8 +20,8 @@ use Rattle.words.specs.Words.{every, value_from, bytes_of}
 use Rattle.connection_id.specs.declared.ConnectionId.{ConnectionId}
 use Rattle.connection_id.specs.ConnectionId.{formed_cid}
 use Rattle.record.specs.declared.TransportParameters.{TransportParameters}
-use Rattle.record.specs.declared.OptionalNumber.{OptionalNumber}
-use Rattle.record.specs.declared.OptionalNumber.TheVariants.{Absent, Present}
+use Rattle.record.specs.Optional.{OptionalNumber}
+use Rattle.std.specs.Prelude.{None, Some}
 use Rattle.record.specs.declared.OptionalConnectionId.{OptionalConnectionId}
 use Rattle.record.specs.Values.{Family, of_v4, of_v6}
 use Rattle.record.specs.Record.{is_present, least, well_formed, formed_optional, formed_optional_cid, formed_token, formed_optional_token, formed_family, formed_address, formed_reserved, formed_order}
@@ -70,16 +70,16 @@ numbers_back (x ∷ ns) s at t h e =
 
 optional_small : (o : OptionalNumber) → formed_optional o ≡ true → least o < bound
 unfolding formed_optional
-optional_small Absent h = omega arith
-optional_small (Present x) h = ltb-true _ _ h
+optional_small None h = omega arith
+optional_small (Some x) h = ltb-true _ _ h
 
-optional_back : (o : OptionalNumber) → pick (is_present o) (Present (least o)) Absent ≡ o
-optional_back Absent = refl
-optional_back (Present x) = refl
+optional_back : (o : OptionalNumber) → pick (is_present o) (Some (least o)) None ≡ o
+optional_back None = refl
+optional_back (Some x) = refl
 
 optional_zero : (o : OptionalNumber) → (is_present o || eqb (least o) 0) ≡ true
-optional_zero Absent = refl
-optional_zero (Present x) = refl
+optional_zero None = refl
+optional_zero (Some x) = refl
 
 -- WHAT A WELL-FORMED RECORD IS: arrays of their sizes, numbers in their range
 cid_long : (c : ConnectionId) → formed_cid c ≡ true → length c.bytes ≡ 20

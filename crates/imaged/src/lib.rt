@@ -2,36 +2,19 @@
 #![tactic(auto)]
 
 ghost use Rattle.std.specs.Prelude.{◌≡◌, [], ◌+◌, ◌≤◌, ◌<◌, length};
-ghost use Rattle.refusal.specs.Answer.{answer_outcome, settled_by};
-ghost use Rattle.connection_id.specs.ConnectionId.{cid_of};
-ghost use Rattle.record.specs.Record.{default_record};
+ghost use Rattle.refusal.specs.Answer.{outcome_of};
 ghost use Rattle.image.specs.Image.{record_size, part, flag_at, number_at, numbers_at, optional_at, cid_at, optional_cid_at, address_at, record_at, flags_hold, zero_if_absent, is_image, record_from, cid_from};
 
 use catalogue::{NUMBERS, PLACES};
 use connection_id::ConnectionId;
 use image::{CID_SIZE, RECORD_SIZE};
 use record::{
-    OptionalConnectionId, OptionalNumber, OptionalResetToken, PreferredAddress,
-    ReservedTransportParameter, ResetToken, SocketAddrV4, SocketAddrV6, TransportParameters,
-    WriteOrder,
+    OptionalConnectionId, OptionalResetToken, PreferredAddress, ReservedTransportParameter,
+    ResetToken, SocketAddrV4, SocketAddrV6, TransportParameters, WriteOrder,
 };
-use refusal::{Answer, Refusal};
+use refusal::Refusal;
 use wire::put_bytes;
 use words::{and, big8, or, word2};
-
-// The answer, and the record: the default one if refused.
-#[derive(Clone, Copy)]
-pub struct ImagedRecord {
-    pub answer: Answer,
-    pub parameters: TransportParameters,
-}
-
-// The answer, and the connection ID: the empty one if refused.
-#[derive(Clone, Copy)]
-pub struct ImagedCid {
-    pub answer: Answer,
-    pub cid: ConnectionId,
-}
 
 // Where the flags stand in the image of a record.
 const FLAGS: [usize; 13] = [88, 89, 90, 99, 108, 130, 152, 174, 191, 192, 199, 255, 281];
@@ -119,16 +102,12 @@ fn numbers_at(s: &[u8]) -> [u64; NUMBERS]
 }
 
 // The number is loaded whether it is there or not.
-fn optional_at(s: &[u8], at: usize) -> OptionalNumber
+fn optional_at(s: &[u8], at: usize) -> Option<u64>
     requires { at + 9 ≤ length s.now }
     ensures { result ≡ optional_at at s.now }
 {
     let x = number_at(s, at + 1);
-    if flag_at(s, at) {
-        OptionalNumber::Present(x)
-    } else {
-        OptionalNumber::Absent
-    }
+    if flag_at(s, at) { Some(x) } else { None }
 }
 
 fn cid_at(s: &[u8], at: usize) -> ConnectionId
@@ -251,36 +230,21 @@ fn is_image(s: &[u8]) -> bool
 }
 
 // The record of an image. What is carried over need not be well formed.
-pub fn record_from(image: &[u8]) -> ImagedRecord
-    ensures { (answer_outcome result.parameters result.answer, result.parameters) ≡ settled_by default_record (record_from image.now) }
+pub fn record_from(image: &[u8]) -> Result<TransportParameters, Refusal>
+    ensures { outcome_of result ≡ record_from image.now }
 {
     if !is_image(image) {
-        let parameters = TransportParameters::default();
-        return ImagedRecord {
-            answer: Answer::Refused(Refusal::IllFormed),
-            parameters,
-        };
+        return Err(Refusal::IllFormed);
     }
-    let parameters = record_at(image);
-    ImagedRecord {
-        answer: Answer::Accepted,
-        parameters,
-    }
+    Ok(record_at(image))
 }
 
 // The connection ID of an image. It need not be well formed.
-pub fn cid_from(image: &[u8]) -> ImagedCid
-    ensures { (answer_outcome result.cid result.answer, result.cid) ≡ settled_by (cid_of []) (cid_from image.now) }
+pub fn cid_from(image: &[u8]) -> Result<ConnectionId, Refusal>
+    ensures { outcome_of result ≡ cid_from image.now }
 {
     if image.len() != CID_SIZE {
-        return ImagedCid {
-            answer: Answer::Refused(Refusal::IllFormed),
-            cid: ConnectionId::empty(),
-        };
+        return Err(Refusal::IllFormed);
     }
-    let cid = cid_at(image, 0);
-    ImagedCid {
-        answer: Answer::Accepted,
-        cid,
-    }
+    Ok(cid_at(image, 0))
 }

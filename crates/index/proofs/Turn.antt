@@ -59,8 +59,8 @@ module _ (s : List ℕ) (f : Found) (at : ℕ) where
   unfolding index_from
   opened k e = rw (e, lt-ltb at (length s) (omega arith))
 
-  pub cut_off : at < length s → refused Cut ≡ located s at → index_from s at f ≡ refused Cut
-  cut_off h e = opened (length s - at - 1) (omega arith) ∙ rw (← e)
+  pub cut_off : (x : Fault) → at < length s → refused x ≡ located s at → index_from s at f ≡ refused x
+  cut_off x h e = opened (length s - at - 1) (omega arith) ∙ rw (← e)
 
   module _ (id a e : ℕ) (h : at < length s) (i : accepted (id, a, e) ≡ located s at) where
     pub turn : index_from s at f ≡ and_then (note f id a (between s a e)) (λ g. index_from s e g)

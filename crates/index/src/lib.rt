@@ -7,30 +7,22 @@ ghost use Rattle.words.specs.Words.{elements};
 ghost use Rattle.catalogue.specs.Catalogue.{places};
 ghost use Rattle.marks.specs.Mark.{marked};
 ghost use Rattle.index.specs.Index.{initial_kept, nothing, index_from, id_len, kept_rules, indexed};
-ghost use Rattle.index.specs.Answer.{scan_outcome, settled_index, refused_index};
+ghost use Rattle.index.specs.Answer.{scan_outcome, index_outcome};
 
 use catalogue::{
     DEFAULTS, MIN_ACK_DELAY, NUMBERS, ORIGINAL_DST_CID, PLACES, PREFERRED_ADDRESS, RETRY_SRC_CID,
     STATELESS_RESET_TOKEN,
 };
-use front::{Fault, Parameter};
+use front::Fault;
 use marks::{is_marked, with_mark};
 use rules::{Microseconds, Side};
-use value::Value;
 use words::low;
 
-// What was found in an extension: the marks of the places met, or what is wrong.
-#[derive(Clone, Copy)]
-pub enum Scanned {
-    Marks(u32),
-    Stopped(Fault),
-}
-
-// What is kept of an extension, by place: the number, or where the value starts; and the value's length. Without a value a number is the default,
-// and everything else 0; so it all is if the extension is refused.
+// What is found in an extension: the marks of the places met; and what is kept, by place: the number, or where the value starts; and the value's
+// length. Without a value a number is the default, and everything else 0.
 #[derive(Clone, Copy)]
 pub struct Entries {
-    pub found: Scanned,
+    pub marks: u32,
     pub kept: [u64; PLACES],
     pub lens: [u8; PLACES],
 }
@@ -62,34 +54,28 @@ const INITIAL: [u64; PLACES] = [
 
 // Goes through the parameters. A mark is looked up and set before it is asked whether the place is one of the catalogue: asked first, the
 // compiler takes the arrays apart.
-fn scan(src: &[u8], kept: &mut [u64; PLACES], lens: &mut [u8; PLACES]) -> Scanned
+fn scan(src: &[u8], kept: &mut [u64; PLACES], lens: &mut [u8; PLACES]) -> Result<u32, Fault>
     requires { (kept.old ≡ initial_kept) × (lens.old ≡ replicate places 0) }
     ensures { scan_outcome result kept.new lens.new ≡ index_from src.now 0 nothing }
 {
     let mut marks: u32 = 0;
     let mut at: usize = 0;
     while at < src.len() {
-        let Parameter::Whole(id, start, end) = front::parameter_at(src, at) else {
-            return Scanned::Stopped(Fault::Cut);
-        };
-        let place = catalogue::place_of(id);
+        let parameter = front::parameter_at(src, at)?;
+        let start = parameter.start;
+        let end = parameter.end;
+        let place = catalogue::place_of(parameter.id);
         let met = is_marked(marks, place);
         let next = with_mark(marks, place);
         if place != PLACES {
-            match value::receive(met, place, start, end - start, &src[start..]) {
-                Value::Fits(x) => {
-                    kept[place] = x;
-                    lens[place] = low((end - start) as u64);
-                    marks = next;
-                }
-                Value::Wrong(fault) => {
-                    return Scanned::Stopped(fault);
-                }
-            }
+            let x = value::receive(met, place, start, end - start, &src[start..])?;
+            kept[place] = x;
+            lens[place] = low((end - start) as u64);
+            marks = next;
         }
         at = end;
     }
-    Scanned::Marks(marks)
+    Ok(marks)
 }
 
 // The numbers of places 0 to 10.
@@ -131,34 +117,16 @@ fn is_allowed(side: Side, src: &[u8], marks: u32, kept: &[u64; PLACES]) -> bool
     rules::presence_allowed(side, original, address, retry, token, id_len)
 }
 
-fn refuse(fault: Fault) -> Entries
-    ensures { result ≡ refused_index fault }
-{
-    Entries {
-        found: Scanned::Stopped(fault),
-        kept: INITIAL,
-        lens: [0; PLACES],
-    }
-}
-
 // Goes through an extension for a side: the first fault from the front, then the value rules.
 #[tactic(auto, using(crate::proofs::Settled::illegal, crate::proofs::Settled::allowed))]
-pub fn index(side: Side, src: &[u8]) -> Entries
-    ensures { result ≡ settled_index (indexed side src.now) }
+pub fn index(side: Side, src: &[u8]) -> Result<Entries, Fault>
+    ensures { index_outcome result ≡ indexed side src.now }
 {
     let mut kept = INITIAL;
     let mut lens = [0u8; PLACES];
-    match scan(src, &mut kept, &mut lens) {
-        Scanned::Stopped(fault) => refuse(fault),
-        Scanned::Marks(marks) => {
-            if !is_allowed(side, src, marks, &kept) {
-                return refuse(Fault::Illegal);
-            }
-            Entries {
-                found: Scanned::Marks(marks),
-                kept,
-                lens,
-            }
-        }
+    let marks = scan(src, &mut kept, &mut lens)?;
+    if !is_allowed(side, src, marks, &kept) {
+        return Err(Fault::Illegal);
     }
+    Ok(Entries { marks, kept, lens })
 }

@@ -20,8 +20,8 @@ use Rattle.catalogue.specs.Catalogue.{places, id_at, defaults, parameter, parame
 use Rattle.catalogue.specs.Sum.{sum}
 use Rattle.catalogue.proofs.Sums.{sum_eq}
 use Rattle.record.specs.declared.TransportParameters.{TransportParameters}
-use Rattle.record.specs.declared.OptionalNumber.{OptionalNumber}
-use Rattle.record.specs.declared.OptionalNumber.TheVariants.{Absent, Present}
+use Rattle.record.specs.Optional.{OptionalNumber}
+use Rattle.std.specs.Prelude.{None, Some}
 use Rattle.record.specs.declared.OptionalConnectionId.{OptionalConnectionId}
 use Rattle.record.specs.declared.ReservedTransportParameter.{ReservedTransportParameter}
 use Rattle.record.specs.Values.{number_out, optional_out, flag_out, cid_out, token_out, address_out, other_values, values_of}
@@ -56,8 +56,8 @@ number_length_lem id d x = go (eqb x d)
 
 optional_length_lem : (id : ℕ) (o : OptionalNumber) → length (parameter_if id (optional_out o)) ≡ optional_length id o
 unfolding optional_out
-optional_length_lem id Absent = value_length_lem id _ false (number_bytes 0) refl
-optional_length_lem id (Present x) = value_length_lem id _ true (number_bytes x) refl
+optional_length_lem id None = value_length_lem id _ false (number_bytes 0) refl
+optional_length_lem id (Some x) = value_length_lem id _ true (number_bytes x) refl
 
 cid_length_at : (id : ℕ) (o : OptionalConnectionId) → formed_optional_cid o ≡ true → length (parameter_if id (cid_out o)) ≡ cid_length id o
 unfolding cid_out formed_optional_cid

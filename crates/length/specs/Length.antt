@@ -4,7 +4,7 @@ use Rattle.refusal.specs.Outcome.{pick}
 use Rattle.varint.specs.Number.{number_bytes}
 use Rattle.catalogue.specs.Catalogue.{defaults, id_at}
 use Rattle.record.specs.declared.TransportParameters.{TransportParameters}
-use Rattle.record.specs.declared.OptionalNumber.{OptionalNumber}
+use Rattle.record.specs.Optional.{OptionalNumber}
 use Rattle.record.specs.declared.OptionalConnectionId.{OptionalConnectionId}
 use Rattle.record.specs.declared.PreferredAddress.{PreferredAddress}
 use Rattle.record.specs.declared.ReservedTransportParameter.{ReservedTransportParameter}

@@ -2,7 +2,7 @@
 #![tactic(auto)]
 
 ghost use Rattle.std.specs.Prelude.{◌≡◌, ◌≤◌, ◌<◌, length};
-ghost use Rattle.refusal.specs.Answer.{count_outcome};
+ghost use Rattle.refusal.specs.Answer.{outcome_of};
 ghost use Rattle.catalogue.specs.Sum.{sum};
 ghost use Rattle.writer.specs.Writing.{length_of};
 ghost use Rattle.length.specs.Length.{value_length, number_length, number_length_at, optional_length, cid_length, reserved_length, address_length, others_length};
@@ -13,10 +13,10 @@ use catalogue::{
     PREFERRED_ADDRESS_ID, RETRY_SRC_CID_ID, STATELESS_RESET_TOKEN_ID,
 };
 use record::{
-    OptionalConnectionId, OptionalNumber, PreferredAddress, ReservedTransportParameter, ResetToken,
+    OptionalConnectionId, PreferredAddress, ReservedTransportParameter, ResetToken,
     TransportParameters,
 };
-use refusal::{Counted, Refusal};
+use refusal::Refusal;
 use varint::size_of;
 use words::size;
 
@@ -40,10 +40,10 @@ fn number_length(due: bool, id: u64, x: u64) -> usize
     value_length(due, id, size_of(x))
 }
 
-fn optional_length(id: u64, o: OptionalNumber) -> usize
+fn optional_length(id: u64, o: Option<u64>) -> usize
     ensures { (result ≡ optional_length id o) × (result < 1024) }
 {
-    number_length(o.is_present(), id, o.or_zero())
+    number_length(o.is_some(), id, o.unwrap_or(0))
 }
 
 fn cid_length(id: u64, o: OptionalConnectionId) -> usize
@@ -105,12 +105,12 @@ fn others_length(r: TransportParameters) -> usize
 
 // How many bytes writing the record stores, whatever order it has or will have.
 #[tactic(auto, using(crate::proofs::Lengths::measured, crate::proofs::Lengths::eleven, crate::proofs::Lengths::not_measured))]
-pub fn length(r: TransportParameters) -> Counted
-    ensures { count_outcome result ≡ length_of r }
+pub fn length(r: TransportParameters) -> Result<usize, Refusal>
+    ensures { outcome_of result ≡ length_of r }
 {
     if !r.is_well_formed() {
-        return Counted::Refused(Refusal::IllFormed);
+        return Err(Refusal::IllFormed);
     }
     let numbers = r.numbers;
-    Counted::Count(numbers_length(&numbers) + others_length(r))
+    Ok(numbers_length(&numbers) + others_length(r))
 }

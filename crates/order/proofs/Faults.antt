@@ -24,7 +24,7 @@ use Rattle.marks.specs.Mark.{marked, mark}
 use Rattle.marks.proofs.Laws.{marked_same, marked_other}
 use Rattle.catalogue.specs.Catalogue.{places}
 use Rattle.order.specs.Order.{member, distinct, permutation, outside, repeats, faulty, first_below, order_fault}
-use Rattle.order.specs.declared.OrderFault.{OrderFault}
+use Rattle.std.specs.Prelude.{Option as Answer, None, Some, is_some as is_some_of}
 use Rattle.order.specs.Answer.{fault_position}
 use Rattle.order.specs.FirstFault.{FirstFault}
 use Rattle.order.proofs.Orders.{at_most}
@@ -160,8 +160,11 @@ none_permutation os = go (first_below (length os) (faulty os)) refl (rw (take-le
     go (some k) e d = rw (by_entry os (length os) k (omega arith) e, ← d, e) (sym (and-false (eqb (length os) places)))
 
 -- what an answer says of it
-pub answered : (os : List ℕ) (r s : OrderFault) → fault_position r ≡ order_fault os → r ≡ s → is_none (fault_position s) ≡ permutation os
-answered os r s e f = sym (ap (λ o. is_none (fault_position o)) f) ∙ ap is_none e ∙ none_permutation os
+pub answered : (os : List ℕ) (r : Answer ℕ) (b : Bool) → fault_position r ≡ order_fault os → is_some_of r ≡ not b → b ≡ permutation os
+answered os None true e h = ap is_none e ∙ none_permutation os
+answered os None false e h = let z : ◌≡◌ {A = ℕ} 0 1 = cc in absurd (omega arith)
+answered os (Some k) true e h = let z : ◌≡◌ {A = ℕ} 0 1 = cc in absurd (omega arith)
+answered os (Some k) false e h = ap is_none e ∙ none_permutation os
 
 nothing_wrong : (os : List ℕ) → (order_fault os ≡ none) ↔ (permutation os ≡ true)
 nothing_wrong os = (λ e. sym (none_permutation os) ∙ ap is_none e, λ p. is_none_lem (order_fault os) (none_permutation os ∙ p))

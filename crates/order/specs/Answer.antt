@@ -1,9 +1,7 @@
 -- The code's answer in the definition's terms.
-use Rattle.std.specs.Prelude.{ℕ}
+use Rattle.std.specs.Prelude.{ℕ, Option as Answer, None, Some}
 use Rattle.std.proofs.Math.Option.{Option, none, some}
-use Rattle.order.specs.declared.OrderFault.{OrderFault}
-use Rattle.order.specs.declared.OrderFault.TheVariants.{At, Nothing}
 
-abbrev pub fault_position : OrderFault → Option ℕ
-fault_position (At k) = some k
-fault_position Nothing = none
+abbrev pub fault_position : Answer ℕ → Option ℕ
+fault_position (Some k) = some k
+fault_position None = none

@@ -9,18 +9,10 @@ use catalogue::PLACES;
 use marks::{is_marked, with_mark};
 use words::size;
 
-// What is wrong with an order.
-#[derive(Clone, Copy)]
-pub enum OrderFault {
-    // the position, from 0, of the first entry that is no place or repeats an earlier one; the length if entries are only missing
-    At(usize),
-    // nothing: it is a permutation of the places
-    Nothing,
-}
-
-// One pass from the front, in which the places met are marked. It ends within the first 22 entries: no more than 21 have marks of their own.
+// What is wrong with an order: the position, from 0, of the first entry that is no place or repeats an earlier one; the length if entries are only
+// missing; or nothing: it is a permutation of the places. One pass from the front, in which the places met are marked. It ends within the first 22 entries: no more than 21 have marks of their own.
 #[tactic(auto, using(crate::proofs::Faults::at_outside, crate::proofs::Faults::too_short, crate::proofs::Faults::long_enough))]
-pub fn order_fault(order: &[u8]) -> OrderFault
+pub fn order_fault(order: &[u8]) -> Option<usize>
     ensures { fault_position result ≡ order_fault order.now }
 {
     let mut met: u32 = 0;
@@ -28,26 +20,23 @@ pub fn order_fault(order: &[u8]) -> OrderFault
     while i < order.len() {
         let place = size(order[i]);
         if PLACES <= place {
-            return OrderFault::At(i);
+            return Some(i);
         }
         if is_marked(met, place) {
-            return OrderFault::At(i);
+            return Some(i);
         }
         met = with_mark(met, place);
         i += 1;
     }
     if i < PLACES {
-        return OrderFault::At(order.len());
+        return Some(order.len());
     }
-    OrderFault::Nothing
+    None
 }
 
 // Whether an order is a permutation of the places: nothing is wrong with it.
 pub fn is_permutation(order: &[u8]) -> bool
     ensures { result ≡ permutation order.now }
 {
-    match order_fault(order) {
-        OrderFault::At(_) => false,
-        OrderFault::Nothing => true,
-    }
+    order_fault(order).is_none()
 }

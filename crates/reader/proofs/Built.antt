@@ -8,13 +8,14 @@ use native.Mathlib.Omega.{arith}
 use lib.ListN.{length, get_or, take, drop, length-take, length-drop}
 use lib.Seq.{drop-cons, take_all, length-take-le}
 use borrow.Author.Tests.{leb-true, eqb-true}
+use Rattle.std.specs.Prelude.{Result as Answer, Ok, IsOk}
+use Rattle.refusal.specs.declared.Refusal.{Refusal}
+use Rattle.refusal.specs.Answer.{outcome_of}
 use Rattle.refusal.proofs.Laws.{all_at}
 use Rattle.words.specs.Words.{zeros, elements}
 use Rattle.connection_id.specs.ConnectionId.{cid_of, make_cid}
-use Rattle.connection_id.specs.Answer.{read_outcome, settled}
 use Rattle.connection_id.specs.declared.ConnectionId.{ConnectionId}
-use Rattle.connection_id.specs.declared.DecodedCid.{DecodedCid}
-use Rattle.connection_id.proofs.Answers.{make_whole}
+use Rattle.connection_id.proofs.Answers.{made}
 use Rattle.record.specs.declared.SocketAddrV4.{SocketAddrV4}
 use Rattle.record.specs.declared.SocketAddrV6.{SocketAddrV6}
 use Rattle.catalogue.specs.Catalogue.{address, fits, id_length}
@@ -25,8 +26,11 @@ unfolding elements
 taken zero i s h = refl
 taken (suc n) i s h = rw (drop-cons s i 0 (omega arith)) (ap (λ l. get_or s i 0 ∷ l) (taken n (suc i) s (omega arith)))
 
-pub cid_new : (d : DecodedCid) (v : List ℕ) → (read_outcome d, d.cid) ≡ settled (make_cid v) → length v ≤ 20 → d.cid ≡ cid_of v
-cid_new d v e h = ap (λ p. p.1) e ∙ rw (make_whole v h)
+pub made_ok : (r : Answer ConnectionId Refusal) (v : List ℕ) → outcome_of r ≡ make_cid v → length v ≤ 20 → IsOk r
+made_ok r v e h = rw (made r v e h) refl
+
+pub cid_new : (r : Answer ConnectionId Refusal) (c : ConnectionId) (v : List ℕ) → outcome_of r ≡ make_cid v → length v ≤ 20 → r ≡ Ok c → c ≡ cid_of v
+cid_new r c v e h q = let x : Ok c ≡ Ok (cid_of v) = sym q ∙ made r v e h in cc
 
 -- FAMILIES of an address
 pub v4_built : (v : List ℕ) (z : Bool) (port : ℕ) → length v ≡ 6 → z ≡ zeros v → port ≡ get_or v 4 0 * 256 + get_or v 5 0

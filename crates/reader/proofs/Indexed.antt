@@ -16,7 +16,7 @@ use Rattle.connection_id.specs.ConnectionId.{cid_of}
 use Rattle.marks.specs.Mark.{marked}
 use Rattle.catalogue.specs.Catalogue.{Kind, number, flag, cid, token, address, kinds, other_kinds, kind_at, defaults, fits}
 use Rattle.catalogue.proofs.Places.{number_kind}
-use Rattle.record.specs.declared.OptionalNumber.TheVariants.{Absent, Present}
+use Rattle.std.specs.Prelude.{None, Some}
 use Rattle.record.specs.declared.TransportParameters.{TransportParameters}
 use Rattle.record.proofs.KindLaws.{Fits, IfSome}
 use Rattle.record.specs.Values.{Bytes, Values, no_values, is_some, number_in, optional_in, cid_in, token_in, address_in, numbers_in, record_of}
@@ -28,9 +28,7 @@ use Rattle.front.specs.declared.Fault.TheVariants.{Illegal}
 use Rattle.front.specs.Answer.{refused_with, numbered}
 use Rattle.index.specs.Index.{Found, nothing, index_from, id_len, kept_rules, indexed, Sound}
 use Rattle.reader.specs.Reading.{parse, judge, read}
-use Rattle.refusal.specs.Answer.{answer_outcome, settled_by}
-use Rattle.reader.specs.declared.Reading.{Reading}
-use Rattle.reader.specs.Kept.{value_at, optional_at, record_from, KeptAt, refused_reading}
+use Rattle.reader.specs.Kept.{value_at, optional_at, record_from, KeptAt}
 use Rattle.reader.proofs.Built.{address_facts, id_len_lem}
 use Rattle.reader.proofs.Grow.{grown}
 use Rattle.reader.proofs.Agree.{Agrees, Related, related}
@@ -57,12 +55,12 @@ kept_at k s m kept lens i p e n =
     record { long = i.long; long_lens = i.long_lens; within = i.within p (no_number p k e n); fit = λ h. rw e at (i.fit p (no_number p k e n) h) }
 
 -- OPTIONAL VALUES
-optional_is : (o : Option (List ℕ)) (b : Bool) (x : ℕ) → is_some o ≡ b → x ≡ number_in 0 o → pick b (Present x) Absent ≡ optional_in o
+optional_is : (o : Option (List ℕ)) (b : Bool) (x : ℕ) → is_some o ≡ b → x ≡ number_in 0 o → pick b (Some x) None ≡ optional_in o
 unfolding number_in optional_in
 optional_is none b x e f = rw (← e)
 optional_is (some v) b x e f = rw (← e, f)
 
-least_is : (o : Option (List ℕ)) (b : Bool) (x : ℕ) → is_some o ≡ b → x ≡ number_in 0 o → least (pick b (Present x) Absent) ≡ x
+least_is : (o : Option (List ℕ)) (b : Bool) (x : ℕ) → is_some o ≡ b → x ≡ number_in 0 o → least (pick b (Some x) None) ≡ x
 unfolding number_in
 least_is none b x e f = rw (← e) (sym f)
 least_is (some v) b x e f = rw (← e)
@@ -171,13 +169,11 @@ read_indexed side s = go (index_from s 0 nothing) (parse no_values s) (related s
     go (refused y) (accepted l) r = absurd r
     go (refused y) (refused x) r = rw r
 
-pub read_stopped : (side : Side) (s : List ℕ) (x : Fault) (r : Reading) → r ≡ refused_reading x → indexed side s ≡ refused x
-    → (answer_outcome r.parameters r.answer, r.parameters) ≡ settled_by default_record (read side s)
-read_stopped side s x r e h = rw (e, read_indexed side s, h)
+pub read_stopped : (side : Side) (s : List ℕ) (x : Fault) → refused x ≡ indexed side s → refused (number_of (refused_with x)) ≡ read side s
+read_stopped side s x h = rw (read_indexed side s, ← h)
 
-pub read_kept : (side : Side) (s : List ℕ) (f : Found) (r : TransportParameters) → r ≡ record_from s f → indexed side s ≡ accepted f
-    → (accepted r, r) ≡ settled_by default_record (read side s)
-read_kept side s f r e h = rw (e, read_indexed side s, h)
+pub read_kept : (side : Side) (s : List ℕ) (f : Found) (r : TransportParameters) → r ≡ record_from s f → accepted f ≡ indexed side s → accepted r ≡ read side s
+read_kept side s f r e h = rw (e, read_indexed side s, ← h)
 
 -- a part that was lent by its start and its length
 pub lent : (a n : ℕ) (s : List ℕ) → take (a + n - a) (drop a s) ≡ take n (drop a s)

@@ -2,26 +2,21 @@
 use Rattle.std.specs.Prelude.{ℕ, ◌+◌, ◌≤◌, ◌≡◌, List, true, length, get_or, take, drop}
 use Rattle.std.proofs.Math.Option.{Option, none, some}
 use Rattle.refusal.specs.Outcome.{pick}
-use Rattle.refusal.specs.declared.Answer.TheVariants.{Refused}
 use Rattle.words.specs.Words.{elements}
 use Rattle.marks.specs.Mark.{marked}
 use Rattle.catalogue.specs.Catalogue.{Kind, places, fits}
 use Rattle.record.specs.declared.TransportParameters.{TransportParameters}
-use Rattle.record.specs.declared.OptionalNumber.{OptionalNumber}
-use Rattle.record.specs.declared.OptionalNumber.TheVariants.{Absent, Present}
+use Rattle.record.specs.Optional.{OptionalNumber}
+use Rattle.std.specs.Prelude.{None, Some}
 use Rattle.record.specs.Values.{cid_in, token_in, address_in, no_reserved, no_order}
-use Rattle.record.specs.Record.{default_record}
-use Rattle.front.specs.declared.Fault.{Fault}
-use Rattle.front.specs.Answer.{refused_with}
 use Rattle.index.specs.Index.{Found}
-use Rattle.reader.specs.declared.Reading.{Reading}
 
 -- the value at a place that holds no number
 unfoldable pub value_at : List ℕ → Found → ℕ → Option (List ℕ)
 value_at s f p = pick (marked f.0 p) (some (take (get_or f.2 p 0) (drop (get_or f.1 p 0) s))) none
 
 abbrev pub optional_at : Found → ℕ → OptionalNumber
-optional_at f p = pick (marked f.0 p) (Present (get_or f.1 p 0)) Absent
+optional_at f p = pick (marked f.0 p) (Some (get_or f.1 p 0)) None
 
 unfoldable pub record_from : List ℕ → Found → TransportParameters
 record_from s f =
@@ -46,7 +41,3 @@ pub record KeptAt (k : Kind) (s : List ℕ) (m : ℕ) (kept lens : List ℕ) (p 
   pub long_lens : length lens ≡ places
   pub within : get_or kept p 0 + get_or lens p 0 ≤ length s
   pub fit : marked m p ≡ true → fits k (take (get_or lens p 0) (drop (get_or kept p 0) s)) ≡ true
-
--- a refused call
-abbrev pub refused_reading : Fault → Reading
-refused_reading f = record { answer = Refused (refused_with f); parameters = default_record }

@@ -4,13 +4,12 @@
 ghost use Rattle.std.specs.Prelude.{◌≡◌, true, not, ◌+◌, ◌*◌, ◌<◌, ◌≤◌, length};
 ghost use Rattle.std.proofs.Math.Option.{none, some};
 ghost use Rattle.refusal.specs.Outcome.{pick};
-ghost use Rattle.refusal.specs.Answer.{answer_outcome, settled_by};
+ghost use Rattle.refusal.specs.Answer.{outcome_of};
 ghost use Rattle.catalogue.specs.Catalogue.{cid, token, address, places, fits};
 ghost use Rattle.record.specs.Values.{cid_in, token_in, address_in, family_in, to_v4, to_v6};
-ghost use Rattle.record.specs.Record.{default_record};
 ghost use Rattle.index.specs.Index.{Sound};
 ghost use Rattle.reader.specs.Reading.{read};
-ghost use Rattle.reader.specs.Kept.{value_at, record_from, KeptAt, refused_reading};
+ghost use Rattle.reader.specs.Kept.{value_at, record_from, KeptAt};
 
 use catalogue::{
     DISABLE_ACTIVE_MIGRATION, GREASE_QUIC_BIT, INITIAL_SRC_CID, MAX_DATAGRAM_FRAME_SIZE,
@@ -18,42 +17,19 @@ use catalogue::{
     STATELESS_RESET_TOKEN,
 };
 use connection_id::ConnectionId;
-use front::Fault;
-use index::Scanned;
 use marks::is_marked;
 use record::{
-    OptionalConnectionId, OptionalNumber, OptionalResetToken, PreferredAddress,
-    ReservedTransportParameter, ResetToken, SocketAddrV4, SocketAddrV6, TransportParameters,
-    WriteOrder,
+    OptionalConnectionId, OptionalResetToken, PreferredAddress, ReservedTransportParameter,
+    ResetToken, SocketAddrV4, SocketAddrV6, TransportParameters, WriteOrder,
 };
-use refusal::Answer;
+use refusal::Refusal;
 use rules::Side;
 use words::all_zero;
 
-// The answer, and the record: the default one if refused.
-#[derive(Clone, Copy)]
-pub struct Reading {
-    pub answer: Answer,
-    pub parameters: TransportParameters,
-}
-
-fn refuse(fault: Fault) -> Reading
-    ensures { result ≡ refused_reading fault }
+fn optional_in(present: bool, x: u64) -> Option<u64>
+    ensures { result ≡ pick present (Some x) None }
 {
-    Reading {
-        answer: Answer::Refused(fault.refusal()),
-        parameters: TransportParameters::default(),
-    }
-}
-
-fn optional_in(present: bool, x: u64) -> OptionalNumber
-    ensures { result ≡ pick present (OptionalNumber.Present x) OptionalNumber.Absent }
-{
-    if present {
-        OptionalNumber::Present(x)
-    } else {
-        OptionalNumber::Absent
-    }
+    if present { Some(x) } else { None }
 }
 
 fn cid_in(present: bool, v: &[u8]) -> OptionalConnectionId
@@ -63,8 +39,7 @@ fn cid_in(present: bool, v: &[u8]) -> OptionalConnectionId
     if !present {
         return OptionalConnectionId::absent();
     }
-    let d = ConnectionId::new(v);
-    let cid = d.cid;
+    let cid = ConnectionId::new(v).unwrap();
     OptionalConnectionId { present: true, cid }
 }
 
@@ -134,8 +109,7 @@ fn address_of(v: &[u8]) -> PreferredAddress
     let end = 25 + n;
     let address_v4 = v4_of(&v[0..6]);
     let address_v6 = v6_of(&v[6..24]);
-    let d = ConnectionId::new(&v[25..end]);
-    let connection_id = d.cid;
+    let connection_id = ConnectionId::new(&v[25..end]).unwrap();
     let bytes = bytes16(&v[end..]);
     PreferredAddress {
         present: true,
@@ -226,19 +200,9 @@ fn record_of<'a>(
 }
 
 // Reads an extension for a side.
-pub fn read(side: Side, src: &[u8]) -> Reading
-    ensures { (answer_outcome result.parameters result.answer, result.parameters) ≡ settled_by default_record (read side src.now) }
+pub fn read(side: Side, src: &[u8]) -> Result<TransportParameters, Refusal>
+    ensures { outcome_of result ≡ read side src.now }
 {
-    let entries = index::index(side, src);
-    let found = entries.found;
-    match found {
-        Scanned::Stopped(fault) => refuse(fault),
-        Scanned::Marks(marks) => {
-            let parameters = record_of(src, marks, &entries.kept, &entries.lens);
-            Reading {
-                answer: Answer::Accepted,
-                parameters,
-            }
-        }
-    }
+    let entries = index::index(side, src)?;
+    Ok(record_of(src, entries.marks, &entries.kept, &entries.lens))
 }

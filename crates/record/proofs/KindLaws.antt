@@ -23,8 +23,8 @@ use Rattle.words.specs.Words.{zeros}
 use Rattle.connection_id.specs.ConnectionId.{cid_of, cid_bytes, formed_cid}
 use Rattle.connection_id.proofs.Laws.{Cid, cid_facts, cid_length_lem, cid_of_lem, cid_none, cid_read_lem, cid_same}
 use Rattle.words.proofs.Laws.{zeros_are}
-use Rattle.record.specs.declared.OptionalNumber.{OptionalNumber}
-use Rattle.record.specs.declared.OptionalNumber.TheVariants.{Absent, Present}
+use Rattle.record.specs.Optional.{OptionalNumber}
+use Rattle.std.specs.Prelude.{None, Some}
 use Rattle.record.specs.declared.OptionalConnectionId.{OptionalConnectionId}
 use Rattle.record.specs.declared.OptionalResetToken.{OptionalResetToken}
 use Rattle.catalogue.specs.Catalogue.{Kind, number, flag, cid, token, fits, fills, illegal, parameter, parameter_if, widest}
@@ -126,13 +126,13 @@ number_short d (some v) f id = go (eqb (value (read_number v)) d)
 -- optional numbers
 pub optional_back : (o : OptionalNumber) → formed_optional o ≡ true → optional_in (optional_out o) ≡ o
 unfolding optional_in optional_out formed_optional
-optional_back Absent h = refl
-optional_back (Present x) h = rw (number_read_lem x (ltb-true _ _ h))
+optional_back None h = refl
+optional_back (Some x) h = rw (number_read_lem x (ltb-true _ _ h))
 
 pub optional_sent : (F : Type 0) (o : OptionalNumber) → formed_optional o ≡ true → IfSome (Sound F number) (optional_out o)
 unfolding optional_out formed_optional
-optional_sent F Absent h = tt
-optional_sent F (Present x) h = number_sound x (ltb-true _ _ h)
+optional_sent F None h = tt
+optional_sent F (Some x) h = number_sound x (ltb-true _ _ h)
 
 pub optional_formed : (o : Option (List ℕ)) → IfSome (Fits number) o → formed_optional (optional_in o) ≡ true
 unfolding optional_in formed_optional

@@ -1,3 +1,4 @@
+pub mod Optional
 pub mod Values
 pub mod Record
 pub mod Fields

@@ -6,8 +6,9 @@ use Rattle.varint.specs.Number.{bound}
 use Rattle.words.specs.Words.{every, zeros}
 use Rattle.connection_id.specs.ConnectionId.{formed_cid}
 use Rattle.record.specs.declared.TransportParameters.{TransportParameters}
-use Rattle.record.specs.declared.OptionalNumber.{OptionalNumber}
-use Rattle.record.specs.declared.OptionalNumber.TheVariants.{Absent, Present}
+use Rattle.record.specs.Optional.{OptionalNumber}
+use Rattle.std.specs.Prelude.{is_some, None, Some}
+use Rattle.std.specs.Option.{unwrap_or}
 use Rattle.record.specs.declared.OptionalConnectionId.{OptionalConnectionId}
 use Rattle.record.specs.declared.ResetToken.{ResetToken}
 use Rattle.record.specs.declared.OptionalResetToken.{OptionalResetToken}
@@ -18,19 +19,17 @@ use Rattle.record.specs.Values.{Family, of_v4, of_v6, no_values, record_of, no_r
 
 -- 0 is not the same as absent
 abbrev pub is_present : OptionalNumber → Bool
-is_present Absent = false
-is_present (Present x) = true
+is_present o = is_some o
 
 -- the number, 0 if it is absent
 abbrev pub least : OptionalNumber → ℕ
-least Absent = 0
-least (Present x) = x
+least o = unwrap_or o 0
 
 -- WELL FORMED: numbers below 2 ^ 62; IDs of at most 20 bytes, zeros after them; only zeros, and length 0, in whatever is absent. What the
 -- types say of lengths and ports stands here too
 unfoldable pub formed_optional : OptionalNumber → Bool
-formed_optional Absent = true
-formed_optional (Present x) = ltb x bound
+formed_optional None = true
+formed_optional (Some x) = ltb x bound
 
 unfoldable pub formed_optional_cid : OptionalConnectionId → Bool
 formed_optional_cid o = all (formed_cid o.cid ∷ (o.present || eqb o.cid.len 0) ∷ [])

@@ -7,8 +7,8 @@ use Rattle.varint.specs.Number.{read_number, number_bytes}
 use Rattle.words.specs.Words.{zeros, value_from, bytes_of}
 use Rattle.connection_id.specs.ConnectionId.{cid_of, cid_bytes}
 use Rattle.record.specs.declared.TransportParameters.{TransportParameters}
-use Rattle.record.specs.declared.OptionalNumber.{OptionalNumber}
-use Rattle.record.specs.declared.OptionalNumber.TheVariants.{Absent, Present}
+use Rattle.record.specs.Optional.{OptionalNumber}
+use Rattle.std.specs.Prelude.{None, Some}
 use Rattle.record.specs.declared.OptionalConnectionId.{OptionalConnectionId}
 use Rattle.record.specs.declared.ResetToken.{ResetToken}
 use Rattle.record.specs.declared.OptionalResetToken.{OptionalResetToken}
@@ -52,12 +52,12 @@ number_out d x = pick (eqb x d) none (some (number_bytes x))
 
 -- optional numbers: 0 is not the same as absent
 unfoldable pub optional_in : Option (List ℕ) → OptionalNumber
-optional_in none = Absent
-optional_in (some v) = Present (value (read_number v))
+optional_in none = None
+optional_in (some v) = Some (value (read_number v))
 
 unfoldable pub optional_out : OptionalNumber → Option (List ℕ)
-optional_out Absent = none
-optional_out (Present x) = some (number_bytes x)
+optional_out None = none
+optional_out (Some x) = some (number_bytes x)
 
 -- FLAGS: a parameter without a value
 unfoldable pub flag_out : Bool → Option (List ℕ)

@@ -16,13 +16,6 @@ use connection_id::ConnectionId;
 use varint::VarInt;
 use words::{all_zero, and, or, zero4, zero16_from, zero20_from};
 
-// A number that may be missing: 0 is not the same as absent.
-#[derive(Clone, Copy)]
-pub enum OptionalNumber {
-    Absent,
-    Present(u64),
-}
-
 // What may be missing is marked by `present`, and all zero where it is absent.
 #[derive(Clone, Copy)]
 pub struct OptionalConnectionId {
@@ -85,38 +78,17 @@ pub struct TransportParameters {
     // places 0 to 10 of the catalogue
     pub numbers: [u64; NUMBERS],
     pub disable_active_migration: bool,
-    pub max_datagram_frame_size: OptionalNumber,
+    pub max_datagram_frame_size: Option<u64>,
     pub initial_src_cid: OptionalConnectionId,
     pub grease_quic_bit: bool,
     // in microseconds
-    pub min_ack_delay: OptionalNumber,
+    pub min_ack_delay: Option<u64>,
     pub original_dst_cid: OptionalConnectionId,
     pub retry_src_cid: OptionalConnectionId,
     pub stateless_reset_token: OptionalResetToken,
     pub preferred_address: PreferredAddress,
     pub grease_transport_parameter: ReservedTransportParameter,
     pub write_order: WriteOrder,
-}
-
-impl OptionalNumber {
-    // 0 is not the same as absent.
-    pub fn is_present(self) -> bool
-        ensures { result ≡ is_present self }
-    {
-        match self {
-            OptionalNumber::Absent => false,
-            OptionalNumber::Present(_) => true,
-        }
-    }
-
-    pub fn or_zero(self) -> u64
-        ensures { result ≡ least self }
-    {
-        match self {
-            OptionalNumber::Absent => 0,
-            OptionalNumber::Present(x) => x,
-        }
-    }
 }
 
 impl SocketAddrV4 {
@@ -225,12 +197,12 @@ fn formed_numbers(n: &[u64; NUMBERS]) -> bool
     acc <= VarInt::MAX.0
 }
 
-fn formed_number(o: OptionalNumber) -> bool
+fn formed_number(o: Option<u64>) -> bool
     ensures { result ≡ formed_optional o }
 {
     match o {
-        OptionalNumber::Absent => true,
-        OptionalNumber::Present(x) => x <= VarInt::MAX.0,
+        None => true,
+        Some(x) => x <= VarInt::MAX.0,
     }
 }
 
@@ -312,10 +284,10 @@ impl TransportParameters {
         TransportParameters {
             numbers: catalogue::DEFAULTS,
             disable_active_migration: false,
-            max_datagram_frame_size: OptionalNumber::Absent,
+            max_datagram_frame_size: None,
             initial_src_cid: OptionalConnectionId::absent(),
             grease_quic_bit: false,
-            min_ack_delay: OptionalNumber::Absent,
+            min_ack_delay: None,
             original_dst_cid: OptionalConnectionId::absent(),
             retry_src_cid: OptionalConnectionId::absent(),
             stateless_reset_token: OptionalResetToken::absent(),

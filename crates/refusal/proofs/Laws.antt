@@ -3,12 +3,15 @@
 --     picked         an outcome that was accepted was the one picked
 --     pick_cases     a fact of both branches is one of what is picked
 --     all_at         each of the tests holds where all do
+--     raised         what a `?` passes on is the error
 use Prim.Native.Nat.{ℕ, zero, suc}
-use mathlib.Core.Path.{◌≡◌, refl}
+use mathlib.Core.Path.{◌≡◌, refl, ap}
 use mathlib.Core.List.{List, [], ◌∷◌}
 use mathlib.Core.Bool.{Bool, true, false}
 use native.Mathlib.Omega.{arith}
 use lib.ListN.{get_or}
+use Rattle.std.specs.Prelude.{Result as Answer, Ok, Err}
+use Rattle.std.specs.Result.{IsErrAnd}
 use Rattle.refusal.specs.Outcome.{Result, accepted, refused, pick, and_then, all}
 
 pub inverted : {E A B P : Type 0} (o : Result E A) (f : A → Result E B) (b : B) → and_then o f ≡ accepted b
@@ -31,3 +34,7 @@ all_at [] e i = refl
 all_at (true ∷ l) e zero = refl
 all_at (true ∷ l) e (suc i) = all_at l e i
 all_at (false ∷ l) e i = let z : ◌≡◌ {A = ℕ} 0 1 = cc in absurd (omega arith)
+
+pub raised : {A E : Type 0} (r : Answer A E) (e : E) → IsErrAnd r (λ d. d ≡ e) → r ≡ Err e
+raised (Err d) e h = ap Err h
+raised (Ok a) e h = absurd h

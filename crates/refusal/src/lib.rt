@@ -1,10 +1,14 @@
-// The refusals of every operation, under the names of the Rust source where it has one, and their numbers; and the answers that carry them.
+// The refusals of every operation, under the names of the Rust source where it has one, and their numbers. What an operation gives is a `Result`
+// with one of them for its error.
 #![tactic(auto)]
 
 ghost use Rattle.std.specs.Prelude.{◌≡◌};
 ghost use Rattle.refusal.specs.Number.{number_of};
 
-#[derive(Clone, Copy)]
+use std::error::Error;
+use std::fmt;
+
+#[derive(Clone, Copy, Debug, PartialEq, Eq)]
 pub enum Refusal {
     // 1: an extension, or a connection ID behind a length byte, that cannot be read
     Malformed,
@@ -26,20 +30,6 @@ pub enum Refusal {
     InvalidDraw,
 }
 
-// What an operation that takes or stores bytes gives: how many.
-#[derive(Clone, Copy)]
-pub enum Counted {
-    Count(usize),
-    Refused(Refusal),
-}
-
-// What any other operation gives; a value stands beside it.
-#[derive(Clone, Copy)]
-pub enum Answer {
-    Accepted,
-    Refused(Refusal),
-}
-
 impl Refusal {
     // The number that the refusal carries.
     pub fn number(self) -> u8
@@ -58,3 +48,21 @@ impl Refusal {
         }
     }
 }
+
+impl fmt::Display for Refusal {
+    fn fmt<W: fmt::Write>(&self, f: &mut fmt::Formatter<W>) -> fmt::Result {
+        f.write_str(match self {
+            Refusal::Malformed => "malformed",
+            Refusal::IllegalValue => "a value that is not allowed",
+            Refusal::UnexpectedEnd => "the input ends within the number",
+            Refusal::VarIntBoundsExceeded => "the number is 2^62 or more",
+            Refusal::BufferTooShort => "the output is too short",
+            Refusal::InvalidOrder => "the order is not a permutation of 0 to 20",
+            Refusal::IllFormed => "the record is not well formed",
+            Refusal::LimitReduced => "a remembered limit is reduced",
+            Refusal::InvalidDraw => "a drawn value is out of range",
+        })
+    }
+}
+
+impl Error for Refusal {}

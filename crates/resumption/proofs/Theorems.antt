@@ -15,7 +15,8 @@ use Rattle.refusal.specs.Outcome.{Outcome, accepted, refused, pick, all}
 use Rattle.refusal.proofs.Laws.{all_at}
 use Rattle.record.specs.declared.TransportParameters.{TransportParameters}
 use Rattle.words.specs.Words.{every}
-use Rattle.record.specs.declared.OptionalNumber.TheVariants.{Absent, Present}
+use Rattle.record.specs.Optional.{OptionalNumber}
+use Rattle.std.specs.Prelude.{None, Some}
 use Rattle.record.specs.Record.{formed_optional, well_formed, bare}
 use Rattle.resumption.specs.Resumption.{remembered, limits_kept, size_rank, nothing_reduced, resume}
 use Rattle.resumption.specs.AbsentAsZero.{sized, AbsentAsZero}
@@ -119,10 +120,10 @@ absent_as_zero =
       as_new = λ new cached. refl;
       as_cached = λ new cached. refl;
       only_from_zero = λ new cached x h.
-          let r = resumed (sized Absent new) (sized (Present x) cached) h in
-          let k = kept_facts (sized Absent new) (sized (Present x) cached) r.kept in
+          let r = resumed (sized None new) (sized (Some x) cached) h in
+          let k = kept_facts (sized None new) (sized (Some x) cached) r.kept in
           omega (arith, leb-true x 0 k.size);
       apart = λ r s e.
-          let size : Absent ≡ Present 0 = ap (λ (q : TransportParameters). q.max_datagram_frame_size) e in
+          let size : ◌≡◌ {A = OptionalNumber} None (Some 0) = ap (λ (q : TransportParameters). q.max_datagram_frame_size) e in
           let z : ◌≡◌ {A = ℕ} 0 1 = cc in omega arith;
     }

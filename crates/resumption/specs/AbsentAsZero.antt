@@ -3,8 +3,8 @@
 use Rattle.std.specs.Prelude.{ℕ, ◌≡◌}
 use Rattle.refusal.specs.Outcome.{accepted}
 use Rattle.record.specs.declared.TransportParameters.{TransportParameters}
-use Rattle.record.specs.declared.OptionalNumber.{OptionalNumber}
-use Rattle.record.specs.declared.OptionalNumber.TheVariants.{Absent, Present}
+use Rattle.record.specs.Optional.{OptionalNumber}
+use Rattle.std.specs.Prelude.{None, Some}
 use Rattle.record.specs.Record.{having, bare}
 use Rattle.resumption.specs.Resumption.{resume}
 
@@ -14,9 +14,9 @@ sized size r = having size r.grease_transport_parameter r.write_order r
 
 pub record AbsentAsZero : Type 0 where
   -- the answer is the same, a refusal too
-  pub as_new : (new cached : TransportParameters) → resume (sized Absent new) cached ≡ resume (sized (Present 0) new) cached
-  pub as_cached : (new cached : TransportParameters) → resume new (sized Absent cached) ≡ resume new (sized (Present 0) cached)
+  pub as_new : (new cached : TransportParameters) → resume (sized None new) cached ≡ resume (sized (Some 0) new) cached
+  pub as_cached : (new cached : TransportParameters) → resume new (sized None cached) ≡ resume new (sized (Some 0) cached)
   -- and no more than that: from a positive size an absent one is not resumed to
-  pub only_from_zero : (new cached : TransportParameters) (x : ℕ) → resume (sized Absent new) (sized (Present x) cached) ≡ accepted tt → x ≡ 0
+  pub only_from_zero : (new cached : TransportParameters) (x : ℕ) → resume (sized None new) (sized (Some x) cached) ≡ accepted tt → x ≡ 0
   -- record equality tells them apart
-  pub apart : (r s : TransportParameters) → bare (sized Absent r) ≡ bare (sized (Present 0) s) → ⊥
+  pub apart : (r s : TransportParameters) → bare (sized None r) ≡ bare (sized (Some 0) s) → ⊥

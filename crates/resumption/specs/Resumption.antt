@@ -3,7 +3,7 @@
 use Rattle.std.specs.Prelude.{ℕ, min, List, [], ◌∷◌, Bool, ◌&&◌, ◌||◌, not, get_or, leb}
 use Rattle.refusal.specs.Outcome.{Outcome, accepted, refused, pick, all}
 use Rattle.record.specs.declared.TransportParameters.{TransportParameters}
-use Rattle.record.specs.declared.OptionalNumber.{OptionalNumber}
+use Rattle.record.specs.Optional.{OptionalNumber}
 use Rattle.words.specs.Words.{every}
 use Rattle.record.specs.Record.{least, well_formed}
 

@@ -4,15 +4,15 @@
 
 ghost use Rattle.std.specs.Prelude.{◌≡◌, length, leb};
 ghost use Rattle.resumption.specs.Resumption.{limits_kept, size_rank, nothing_reduced, resume, issue_limit};
-ghost use Rattle.refusal.specs.Answer.{verdict_outcome};
+ghost use Rattle.refusal.specs.Answer.{outcome_of};
 
 use catalogue::{
     ACTIVE_CONNECTION_ID_LIMIT, INITIAL_MAX_DATA, INITIAL_MAX_STREAM_DATA_BIDI_LOCAL,
     INITIAL_MAX_STREAM_DATA_BIDI_REMOTE, INITIAL_MAX_STREAM_DATA_UNI, INITIAL_MAX_STREAMS_BIDI,
     INITIAL_MAX_STREAMS_UNI, NUMBERS,
 };
-use record::{OptionalNumber, TransportParameters};
-use refusal::{Answer, Refusal};
+use record::TransportParameters;
+use refusal::Refusal;
 use words::{and, minimum, or};
 
 // How many connection IDs are issued at most.
@@ -47,22 +47,22 @@ fn limits_kept<'a>(new: &'a [u64; NUMBERS], cached: &'a [u64; NUMBERS]) -> bool
 }
 
 // Whether the datagram size is not reduced: an absent one counts as 0.
-fn size_kept(new: OptionalNumber, cached: OptionalNumber) -> bool
+fn size_kept(new: Option<u64>, cached: Option<u64>) -> bool
     ensures { result ≡ leb (size_rank cached) (size_rank new) }
 {
     match cached {
-        OptionalNumber::Absent => true,
-        OptionalNumber::Present(old) => at_least(new, old),
+        None => true,
+        Some(old) => at_least(new, old),
     }
 }
 
 // Whether a datagram size is no smaller than `old`.
-fn at_least(new: OptionalNumber, old: u64) -> bool
-    ensures { result ≡ leb (size_rank (OptionalNumber.Present old)) (size_rank new) }
+fn at_least(new: Option<u64>, old: u64) -> bool
+    ensures { result ≡ leb (size_rank (Some old)) (size_rank new) }
 {
     match new {
-        OptionalNumber::Absent => old == 0,
-        OptionalNumber::Present(x) => old <= x,
+        None => old == 0,
+        Some(x) => old <= x,
     }
 }
 
@@ -79,16 +79,19 @@ fn nothing_reduced(new: TransportParameters, cached: TransportParameters) -> boo
 }
 
 // Whether 0-RTT may go on with new parameters, given those remembered.
-pub fn validate_resumption_from(new: TransportParameters, cached: TransportParameters) -> Answer
-    ensures { verdict_outcome result ≡ resume new cached }
+pub fn validate_resumption_from(
+    new: TransportParameters,
+    cached: TransportParameters,
+) -> Result<(), Refusal>
+    ensures { outcome_of result ≡ resume new cached }
 {
     if !and(new.is_well_formed(), cached.is_well_formed()) {
-        return Answer::Refused(Refusal::IllFormed);
+        return Err(Refusal::IllFormed);
     }
     if !nothing_reduced(new, cached) {
-        return Answer::Refused(Refusal::LimitReduced);
+        return Err(Refusal::LimitReduced);
     }
-    Answer::Accepted
+    Ok(())
 }
 
 // How many connection IDs to issue to the peer of this record.

@@ -2,7 +2,7 @@
 #![tactic(auto)]
 
 ghost use Rattle.std.specs.Prelude.{◌≡◌, ◌*◌, leb};
-ghost use Rattle.refusal.specs.Answer.{verdict_outcome};
+ghost use Rattle.refusal.specs.Answer.{outcome_of};
 ghost use Rattle.record.specs.Record.{family_rules};
 ghost use Rattle.rules.specs.Rules.{is_server, number_rules, presence_rules, value_rules, check_record};
 
@@ -11,7 +11,7 @@ use catalogue::{
     INITIAL_MAX_STREAMS_UNI, MAX_ACK_DELAY, MAX_UDP_PAYLOAD_SIZE, NUMBERS,
 };
 use record::{PreferredAddress, TransportParameters};
-use refusal::{Answer, Refusal};
+use refusal::Refusal;
 use words::{and, or};
 
 // The side that reads an extension, or for which it is written: the other side is the one that speaks.
@@ -115,7 +115,7 @@ fn is_allowed(r: TransportParameters, side: Side) -> bool
     let o3 = r.retry_src_cid;
     let t = r.stateless_reset_token;
     let c = a.connection_id;
-    let numbers = numbers_allowed(&n, Microseconds(m.or_zero()));
+    let numbers = numbers_allowed(&n, Microseconds(m.unwrap_or(0)));
     and(
         numbers,
         presence_allowed(side, o1.present, a.present, o3.present, t.present, c.len),
@@ -123,15 +123,15 @@ fn is_allowed(r: TransportParameters, side: Side) -> bool
 }
 
 // Checks a record for the side that reads it.
-pub fn check(r: TransportParameters, side: Side) -> Answer
-    ensures { verdict_outcome result ≡ check_record side r }
+pub fn check(r: TransportParameters, side: Side) -> Result<(), Refusal>
+    ensures { outcome_of result ≡ check_record side r }
 {
     if !r.is_well_formed() {
-        return Answer::Refused(Refusal::IllFormed);
+        return Err(Refusal::IllFormed);
     }
     let a = r.preferred_address;
     if !and(families_allowed(a), is_allowed(r, side)) {
-        return Answer::Refused(Refusal::IllegalValue);
+        return Err(Refusal::IllegalValue);
     }
-    Answer::Accepted
+    Ok(())
 }

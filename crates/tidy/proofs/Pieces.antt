@@ -19,7 +19,7 @@ use Rattle.connection_id.proofs.Laws.{cid_same}
 use Rattle.catalogue.specs.Catalogue.{Kind, number, flag, cid, token, address, reserved, id_at, kinds, other_kinds, kind_at, fits}
 use Rattle.order.specs.Order.{catalogue_order}
 use Rattle.order.proofs.Orders.{in_catalogue}
-use Rattle.record.specs.declared.OptionalNumber.TheVariants.{Absent, Present}
+use Rattle.std.specs.Prelude.{None, Some}
 use Rattle.record.specs.Values.{Bytes, cid_in, token_in, address_in, address_out, no_reserved}
 use Rattle.record.specs.Record.{is_present, least, well_formed}
 use Rattle.record.proofs.KindLaws.{Fits, IfSome}
@@ -69,7 +69,7 @@ flag_piece true id [] f = refl
 flag_piece true id (b ∷ v) f = let z : suc (length v) ≡ 0 = eqb-true (suc (length v)) 0 f.fit in absurd (omega arith)
 flag_piece false id v f = refl
 
-number_piece : (b : Bool) (id x : ℕ) → due_number (is_present (pick b (Present x) Absent)) id (least (pick b (Present x) Absent)) ≡ due_number b id x
+number_piece : (b : Bool) (id x : ℕ) → due_number (is_present (pick b (Some x) None)) id (least (pick b (Some x) None)) ≡ due_number b id x
 unfolding due_number due_value
 number_piece true id x = refl
 number_piece false id x = refl
@@ -158,7 +158,7 @@ module _ (side : Side) (s : List ℕ) (m : ℕ) (kept lens : List ℕ) (hb : Byt
   pub tidied_pieces : (out : List ℕ) → store (joined (pieces s m kept lens)) out ≡ tidy side s out
   tidied_pieces out = ap (λ (bs : List ℕ). store bs out) whole ∙ sym (tidied side s out (record_from s f) hb (read_recorded side s f e))
 
-pub not_read : (side : Side) (s out : List ℕ) (x : Fault) (r : Refusal) → r ≡ refused_with x → indexed side s ≡ refused x
-    → ◌≡◌ {A = Outcome ℕ × List ℕ} (refused (number_of r), out) (tidy side s out)
+pub not_read : (side : Side) (s out : List ℕ) (x : Fault) → refused x ≡ indexed side s
+    → ◌≡◌ {A = Outcome ℕ × List ℕ} (refused (number_of (refused_with x)), out) (tidy side s out)
 unfolding tidy
-not_read side s out x r q h = rw (q, read_faulty side s x h)
+not_read side s out x h = rw (read_faulty side s x (sym h))

@@ -4,7 +4,7 @@
 
 ghost use Rattle.std.specs.Prelude.{◌≡◌, [], ◌+◌, ◌≤◌, ◌<◌, length};
 ghost use Rattle.refusal.specs.Outcome.{store};
-ghost use Rattle.refusal.specs.Answer.{count_outcome};
+ghost use Rattle.refusal.specs.Answer.{outcome_of};
 ghost use Rattle.catalogue.specs.Catalogue.{places};
 ghost use Rattle.wire.specs.Wire.{put, number_at};
 ghost use Rattle.wire.specs.Stored.{joined, each};
@@ -15,9 +15,8 @@ ghost use Rattle.tidy.specs.Pieces.{Kept, piece_for, others, pieces};
 use catalogue::{
     DEFAULTS, IDS, MAX_EXTENSION, NUMBER_PLACES, NUMBERS, PLACES, STATELESS_RESET_TOKEN,
 };
-use index::Scanned;
 use marks::is_marked;
-use refusal::{Counted, Refusal};
+use refusal::Refusal;
 use rules::Side;
 use wire::{put_bytes, put_number, put_value};
 
@@ -109,30 +108,26 @@ fn put_tidied<'a>(
     kept: &'a [u64; PLACES],
     lens: &'a [u8; PLACES],
     out: &mut [u8],
-) -> Counted
+) -> Result<usize, Refusal>
     requires { Kept src.now kept.now lens.now × (length (joined (pieces src.now marks kept.now lens.now)) ≤ 314) }
-    ensures { (count_outcome result, out.new) ≡ store (joined (pieces src.now marks kept.now lens.now)) out.old }
+    ensures { (outcome_of result, out.new) ≡ store (joined (pieces src.now marks kept.now lens.now)) out.old }
 {
     if MAX_EXTENSION <= out.len() {
-        return Counted::Count(put_all(src, marks, kept, lens, out));
+        return Ok(put_all(src, marks, kept, lens, out));
     }
     let mut parts = [0u8; MAX_EXTENSION];
     let n = put_all(src, marks, kept, lens, &mut parts);
     if out.len() < n {
-        return Counted::Refused(Refusal::BufferTooShort);
+        return Err(Refusal::BufferTooShort);
     }
     put_bytes(&parts[..n], out);
-    Counted::Count(n)
+    Ok(n)
 }
 
 // Tidies `src` to the front of `out`.
-pub fn tidy(side: Side, src: &[u8], out: &mut [u8]) -> Counted
-    ensures { (count_outcome result, out.new) ≡ tidy side src.now out.old }
+pub fn tidy(side: Side, src: &[u8], out: &mut [u8]) -> Result<usize, Refusal>
+    ensures { (outcome_of result, out.new) ≡ tidy side src.now out.old }
 {
-    let entries = index::index(side, src);
-    let found = entries.found;
-    match found {
-        Scanned::Stopped(fault) => Counted::Refused(fault.refusal()),
-        Scanned::Marks(marks) => put_tidied(src, marks, &entries.kept, &entries.lens, out),
-    }
+    let entries = index::index(side, src)?;
+    put_tidied(src, entries.marks, &entries.kept, &entries.lens, out)
 }

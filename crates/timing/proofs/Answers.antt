@@ -9,10 +9,10 @@ use lib.Dec.{ltb}
 use borrow.Author.Tests.{lt-ltb, le-ltb}
 use Rattle.refusal.specs.Outcome.{Outcome, pick}
 use Rattle.refusal.specs.Number.{number_of}
-use Rattle.refusal.specs.Answer.{answer_outcome, value_or, settled_by}
+use Rattle.refusal.specs.Answer.{outcome_of, value_or}
 use Rattle.refusal.specs.declared.Refusal.{Refusal}
-use Rattle.refusal.specs.declared.Answer.{Answer}
-use Rattle.refusal.specs.declared.Answer.TheVariants.{Accepted, Refused}
+use Rattle.std.specs.Prelude.{Result as Answer}
+use Rattle.std.specs.Prelude.{Ok, Err}
 use Rattle.record.specs.declared.TransportParameters.{TransportParameters}
 use Rattle.rules.specs.declared.Side.TheVariants.{Client}
 use Rattle.reader.specs.Reading.{read}
@@ -20,28 +20,26 @@ use Rattle.writer.specs.Writing.{write}
 use Rattle.timing.specs.Timing.{code, code_of, last_of, counted, again, repeat, read_next, reads_of, written_from}
 
 -- READING
-module _ (r d : TransportParameters) (a : Answer) (o : Outcome TransportParameters) (e : (answer_outcome r a, r) ≡ settled_by d o) where
-  is_outcome : answer_outcome r a ≡ o
-  is_outcome = ap (λ p. p.0) e
+module _ (a : Answer TransportParameters Refusal) (o : Outcome TransportParameters) (e : outcome_of a ≡ o) where
+  pub code_in : (r : TransportParameters) → a ≡ Ok r → 0 ≡ code o
+  code_in r h = ap code (sym (ap outcome_of h) ∙ e)
 
-  pub code_in : a ≡ Accepted → 0 ≡ code o
-  code_in h = ap code (sym (ap (answer_outcome r) h) ∙ is_outcome)
-
-  pub code_out : (f : Refusal) (n : ℕ) → a ≡ Refused f → n ≡ number_of f → n ≡ code o
-  code_out f n h g = g ∙ ap code (sym (ap (answer_outcome r) h) ∙ is_outcome)
-
-  pub number_at_lem : (k : ℕ) → get_or r.numbers k 0 ≡ get_or (value_or d o).numbers k 0
-  number_at_lem k = ap (λ (p : Outcome TransportParameters × TransportParameters). get_or p.1.numbers k 0) e
-
-  pub number_past : (k : ℕ) → length r.numbers ≡ 11 → 11 ≤ k → 0 ≡ get_or (value_or d o).numbers k 0
-  number_past k l h = sym (get_or-eq_default r.numbers 0 (omega arith)) ∙ number_at_lem k
+  pub code_out : (f : Refusal) (n : ℕ) → a ≡ Err f → n ≡ number_of f → n ≡ code o
+  code_out f n h g = g ∙ ap code (sym (ap outcome_of h) ∙ e)
 
   -- what is no image
-  pub written_in : (times : ℕ) (out : List ℕ) (w : ℕ × List ℕ) → a ≡ Accepted → w ≡ repeat times (again r) (0, out) → w ≡ written_from o times out
-  written_in times out w h f = f ∙ ap (λ o. written_from o times out) (sym (ap (answer_outcome r) h) ∙ is_outcome)
+  pub written_in : (r : TransportParameters) (times : ℕ) (out : List ℕ) (w : ℕ × List ℕ) → a ≡ Ok r → w ≡ repeat times (again r) (0, out) → w ≡ written_from o times out
+  written_in r times out w h f = f ∙ ap (λ o. written_from o times out) (sym (ap outcome_of h) ∙ e)
 
-  pub written_out : (times : ℕ) (out : List ℕ) (f : Refusal) (n : ℕ) → a ≡ Refused f → n ≡ number_of f → (2 ^ 32 + n, out) ≡ written_from o times out
-  written_out times out f n h g = rw g (ap (λ o. written_from o times out) (sym (ap (answer_outcome r) h) ∙ is_outcome))
+  pub written_out : (times : ℕ) (out : List ℕ) (f : Refusal) (n : ℕ) → a ≡ Err f → n ≡ number_of f → (2 ^ 32 + n, out) ≡ written_from o times out
+  written_out times out f n h g = rw g (ap (λ o. written_from o times out) (sym (ap outcome_of h) ∙ e))
+
+-- the record read, or the one given
+pub record_in : (a : Answer TransportParameters Refusal) (o : Outcome TransportParameters) (d r : TransportParameters) → outcome_of a ≡ o → a ≡ Ok r → value_or d o ≡ r
+record_in a o d r e h = ap (value_or d) (sym e ∙ ap outcome_of h)
+
+pub record_out : (a : Answer TransportParameters Refusal) (o : Outcome TransportParameters) (d : TransportParameters) (f : Refusal) → outcome_of a ≡ o → a ≡ Err f → value_or d o ≡ d
+record_out a o d f e h = ap (value_or d) (sym e ∙ ap outcome_of h)
 
 -- one call more
 pub last_more : (i n x : ℕ) → n ≡ x → n ≡ last_of (i + 1) x

@@ -3,7 +3,7 @@
 #![tactic(auto)]
 
 ghost use Rattle.std.specs.Prelude.{◌≡◌, get_or};
-ghost use Rattle.refusal.specs.Answer.{count_outcome, value_or};
+ghost use Rattle.refusal.specs.Answer.{outcome_of, value_or};
 ghost use Rattle.record.specs.Record.{default_record};
 ghost use Rattle.reader.specs.Reading.{read};
 ghost use Rattle.writer.specs.Writing.{write};
@@ -13,19 +13,19 @@ ghost use Rattle.timing.specs.Timing.{code, code_of, last_of, counted, again, re
 
 use catalogue::NUMBERS;
 use record::TransportParameters;
-use refusal::{Answer, Counted};
+use refusal::Refusal;
 use rules::Side;
 
 // No count is as large.
 const REFUSED: usize = 1 << 32;
 
 // A count, or what refuses.
-fn code_of(answer: Counted) -> usize
-    ensures { result ≡ code_of (count_outcome answer) }
+fn code_of(answer: Result<usize, Refusal>) -> usize
+    ensures { result ≡ code_of (outcome_of answer) }
 {
     match answer {
-        Counted::Count(n) => n,
-        Counted::Refused(refusal) => REFUSED + (refusal.number() as usize),
+        Ok(n) => n,
+        Err(refusal) => REFUSED + (refusal.number() as usize),
     }
 }
 
@@ -36,11 +36,9 @@ fn code_of(answer: Counted) -> usize
 fn read_once(src: &[u8]) -> u8
     ensures { result ≡ code (read Side.Client src.now) }
 {
-    let reading = reader::read(Side::Client, src);
-    let answer = reading.answer;
-    match answer {
-        Answer::Accepted => 0,
-        Answer::Refused(refusal) => refusal.number(),
+    match reader::read(Side::Client, src) {
+        Ok(_) => 0,
+        Err(refusal) => refusal.number(),
     }
 }
 
@@ -81,17 +79,25 @@ pub extern "C" fn timing_reads(src: &[u8], size: usize, times: usize) -> u8
     last
 }
 
-// The number at a place of the record read, 0 from place 11 on; of a refused extension, of the default record.
+// The record read; of a refused extension, the default record.
+fn record_read(src: &[u8]) -> TransportParameters
+    ensures { result ≡ value_or default_record (read Side.Client src.now) }
+{
+    match reader::read(Side::Client, src) {
+        Ok(r) => r,
+        Err(_) => TransportParameters::default(),
+    }
+}
+
+// The number at a place of it, 0 from place 11 on.
 #[unsafe(no_mangle)]
 pub extern "C" fn timing_number(src: &[u8], place: usize) -> u64
     ensures { result ≡ get_or (value_or default_record (read Side.Client src.now)).numbers place 0 }
 {
-    let reading = reader::read(Side::Client, src);
+    let numbers = record_read(src).numbers;
     if NUMBERS <= place {
         return 0;
     }
-    let r = reading.parameters;
-    let numbers = r.numbers;
     numbers[place]
 }
 
@@ -118,14 +124,9 @@ fn write_times(r: TransportParameters, times: usize, out: &mut [u8]) -> usize
 pub extern "C" fn timing_write(record: &[u8], times: usize, out: &mut [u8]) -> usize
     ensures { (result, out.new) ≡ written_from (record_from «record».now) times out.old }
 {
-    let imaged = imaged::record_from(record);
-    let answer = imaged.answer;
-    match answer {
-        Answer::Accepted => {
-            let r = imaged.parameters;
-            write_times(r, times, out)
-        }
-        Answer::Refused(refusal) => REFUSED + (refusal.number() as usize),
+    match imaged::record_from(record) {
+        Ok(r) => write_times(r, times, out),
+        Err(refusal) => REFUSED + (refusal.number() as usize),
     }
 }
 
@@ -134,14 +135,9 @@ pub extern "C" fn timing_write(record: &[u8], times: usize, out: &mut [u8]) -> u
 pub extern "C" fn timing_written(record: &[u8], out: &mut [u8]) -> usize
     ensures { (result, out.new) ≡ written_from (record_from «record».now) 1 out.old }
 {
-    let imaged = imaged::record_from(record);
-    let answer = imaged.answer;
-    match answer {
-        Answer::Accepted => {
-            let r = imaged.parameters;
-            write_once(r, out)
-        }
-        Answer::Refused(refusal) => REFUSED + (refusal.number() as usize),
+    match imaged::record_from(record) {
+        Ok(r) => write_once(r, out),
+        Err(refusal) => REFUSED + (refusal.number() as usize),
     }
 }
 

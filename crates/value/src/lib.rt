@@ -1,11 +1,13 @@
-// A value received for a place of the catalogue: whether it is a second copy, whether it fits its kind, and what is kept of it.
+// A value received for a place of the catalogue: whether it is a second copy, whether it fits its kind, and what is kept of it: the number that it
+// holds or, for another kind, where it starts.
 #![tactic(auto)]
 
 ghost use Rattle.std.specs.Prelude.{◌≡◌, true, ◌≤◌, ◌<◌, length, take};
 ghost use Rattle.refusal.specs.Outcome.{pick};
 ghost use Rattle.catalogue.specs.Catalogue.{number, address, kind_at};
 ghost use Rattle.value.specs.Value.{is_simple, check_kind, check_value, receive_value};
-ghost use Rattle.value.specs.Answer.{value_outcome, judged};
+ghost use Rattle.front.specs.Answer.{fault_outcome};
+ghost use Rattle.value.specs.Answer.{judged};
 
 use catalogue::{
     CID_PLACES, FLAG_PLACES, NUMBER_PLACES, PREFERRED_ADDRESS, SIMPLE_PLACES, STATELESS_RESET_TOKEN,
@@ -14,55 +16,44 @@ use connection_id::ConnectionId;
 use front::Fault;
 use marks::is_marked;
 use record::ResetToken;
-use varint::{Decoded, VarInt};
+use varint::VarInt;
 use words::{all_zero, and};
 
-// What is kept of a value: the number that it holds or, for another kind, where it starts; or what is wrong.
-#[derive(Clone, Copy)]
-pub enum Value {
-    Fits(u64),
-    Wrong(Fault),
-}
-
 // A number that uses exactly its bytes.
-fn check_number(start: usize, v: &[u8]) -> Value
-    ensures { value_outcome result ≡ check_kind number start v.now }
+fn check_number(start: usize, v: &[u8]) -> Result<u64, Fault>
+    ensures { fault_outcome result ≡ check_kind number start v.now }
 {
-    let Decoded::Value(x, n) = VarInt::decode(v) else {
-        return Value::Wrong(Fault::Misfit);
+    let Ok((x, n)) = VarInt::decode(v) else {
+        return Err(Fault::Misfit);
     };
     fits_if(n == v.len(), x)
 }
 
 // A preferred address: both families absent is found before leftover bytes.
-fn check_address(start: usize, v: &[u8]) -> Value
-    ensures { value_outcome result ≡ check_kind address start v.now }
+fn check_address(start: usize, v: &[u8]) -> Result<u64, Fault>
+    ensures { fault_outcome result ≡ check_kind address start v.now }
 {
     if v.len() < 25 {
-        return Value::Wrong(Fault::Misfit);
+        return Err(Fault::Misfit);
     }
     let n = v[24] as usize;
     if ConnectionId::MAX_SIZE < n {
-        return Value::Wrong(Fault::Misfit);
+        return Err(Fault::Misfit);
     }
     let end = 41 + n;
     if v.len() < end {
-        return Value::Wrong(Fault::Misfit);
+        return Err(Fault::Misfit);
     }
     if all_zero(&v[0..24]) {
-        return Value::Wrong(Fault::Illegal);
+        return Err(Fault::Illegal);
     }
     fits_if(v.len() == end, start as u64)
 }
 
-fn fits_if(test: bool, kept: u64) -> Value
-    ensures { value_outcome result ≡ judged test kept }
+fn fits_if(test: bool, kept: u64) -> Result<u64, Fault>
+    ensures { fault_outcome result ≡ judged test kept }
 {
-    if test {
-        Value::Fits(kept)
-    } else {
-        Value::Wrong(Fault::Misfit)
-    }
+    if test { Ok(kept) } else { Err(Fault::Misfit) }
 }
 
 // 1 or 0. What it indexes is chosen with no branch.
@@ -74,24 +65,24 @@ fn bit(test: bool) -> usize
 
 // A value for a simple place: a number is as long as it says, a token 16, a connection ID up to 20, a flag none. Parameters come in any order,
 // so there is no branch on the kind.
-fn check_wide(place: usize, start: usize, len: usize, rest: &[u8]) -> Value
+fn check_wide(place: usize, start: usize, len: usize, rest: &[u8]) -> Result<u64, Fault>
     requires { (8 ≤ length rest.now) × (len ≤ length rest.now) × (is_simple (kind_at place) ≡ true) }
-    ensures { value_outcome result ≡ check_value place start (take len rest.now) }
+    ensures { fault_outcome result ≡ check_value place start (take len rest.now) }
 {
     let number = VarInt::decode_wide(rest);
     let is_number = bit(is_marked(NUMBER_PLACES, place));
     let is_cid = bit(is_marked(CID_PLACES, place));
     let is_token = bit(place == STATELESS_RESET_TOKEN);
-    let least = [ResetToken::SIZE * is_token, number.count];
-    let kept = [start as u64, number.value];
+    let least = [ResetToken::SIZE * is_token, number.1];
+    let kept = [start as u64, number.0];
     let shortest = least[is_number];
     let longest = shortest + ConnectionId::MAX_SIZE * is_cid;
     fits_if(and(shortest <= len, len <= longest), kept[is_number])
 }
 
 // A value for a place: there is none for the reserved parameter's place, nor beyond the last.
-fn check_narrow(place: usize, start: usize, v: &[u8]) -> Value
-    ensures { value_outcome result ≡ check_value place start v.now }
+fn check_narrow(place: usize, start: usize, v: &[u8]) -> Result<u64, Fault>
+    ensures { fault_outcome result ≡ check_value place start v.now }
 {
     if is_marked(NUMBER_PLACES, place) {
         return check_number(start, v);
@@ -108,12 +99,12 @@ fn check_narrow(place: usize, start: usize, v: &[u8]) -> Value
     if place == PREFERRED_ADDRESS {
         return check_address(start, v);
     }
-    Value::Wrong(Fault::Misfit)
+    Err(Fault::Misfit)
 }
 
 // The value of `len` bytes at the front of `rest`, or of all that is there.
-fn check_value(place: usize, start: usize, len: usize, rest: &[u8]) -> Value
-    ensures { value_outcome result ≡ check_value place start (take len rest.now) }
+fn check_value(place: usize, start: usize, len: usize, rest: &[u8]) -> Result<u64, Fault>
+    ensures { fault_outcome result ≡ check_value place start (take len rest.now) }
 {
     if rest.len() < len {
         return check_narrow(place, start, rest);
@@ -127,11 +118,11 @@ fn check_value(place: usize, start: usize, len: usize, rest: &[u8]) -> Value
 }
 
 // A value for a place, which was met before or not: `len` bytes at the front of `rest`, which starts at `start` of the extension.
-pub fn receive(met: bool, place: usize, start: usize, len: usize, rest: &[u8]) -> Value
-    ensures { value_outcome result ≡ receive_value met place start (take len rest.now) }
+pub fn receive(met: bool, place: usize, start: usize, len: usize, rest: &[u8]) -> Result<u64, Fault>
+    ensures { fault_outcome result ≡ receive_value met place start (take len rest.now) }
 {
     if met {
-        return Value::Wrong(Fault::SecondCopy);
+        return Err(Fault::SecondCopy);
     }
     check_value(place, start, len, rest)
 }

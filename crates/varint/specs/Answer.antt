@@ -1,16 +1,10 @@
--- The code's answers in the papers' terms.
-use Rattle.std.specs.Prelude.{ℕ}
+-- The code's answer in the papers' terms.
+use Rattle.std.specs.Prelude.{ℕ, Result as Answer, Ok, Err}
 use Rattle.refusal.specs.Outcome.{Outcome, accepted, refused}
 use Rattle.refusal.specs.Number.{number_of}
-use Rattle.varint.specs.declared.Converted.{Converted}
-use Rattle.varint.specs.declared.Converted.TheVariants.{Number, Refused as RefusedC}
-use Rattle.varint.specs.declared.Decoded.{Decoded}
-use Rattle.varint.specs.declared.Decoded.TheVariants.{Value, Refused}
+use Rattle.refusal.specs.declared.Refusal.{Refusal}
+use Rattle.varint.specs.declared.VarInt.{VarInt}
 
-abbrev pub convert_outcome : Converted → Outcome ℕ
-convert_outcome (Number x) = accepted x.0
-convert_outcome (RefusedC r) = refused (number_of r)
-
-abbrev pub read_outcome : Decoded → Outcome (ℕ × ℕ)
-read_outcome (Value v n) = accepted (v, n)
-read_outcome (Refused r) = refused (number_of r)
+abbrev pub convert_outcome : Answer VarInt Refusal → Outcome ℕ
+convert_outcome (Ok x) = accepted x.0
+convert_outcome (Err r) = refused (number_of r)

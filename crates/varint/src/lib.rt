@@ -5,34 +5,42 @@ ghost use Rattle.std.specs.Prelude.{◌≡◌, ◌/◌, ◌^◌, ◌<◌, ◌≤
 ghost use Rattle.refusal.specs.Outcome.{accepted, front};
 ghost use Rattle.words.specs.Words.{bytes_of};
 ghost use Rattle.varint.specs.Number.{form, number_bytes, read_number, read_wide, write_number, convert_number, size_number};
-ghost use Rattle.varint.specs.Answer.{convert_outcome, read_outcome};
-ghost use Rattle.refusal.specs.Answer.{count_outcome};
+ghost use Rattle.varint.specs.Answer.{convert_outcome};
+ghost use Rattle.refusal.specs.Answer.{outcome_of};
 
-use refusal::{Counted, Refusal};
+use refusal::Refusal;
 use words::{big8, low, put_word, wide, word2, word4};
 
-#[derive(Clone, Copy)]
+#[derive(Clone, Copy, Debug, PartialEq, Eq)]
 pub struct VarInt(pub u64);
 
-// What a conversion gives.
-#[derive(Clone, Copy)]
-pub enum Converted {
-    Number(VarInt),
-    Refused(Refusal),
+impl From<u32> for VarInt {
+    ghost from_gives = { λ x v. v.0 ≡ x };
+
+    fn from(x: u32) -> VarInt {
+        VarInt(u64::from(x))
+    }
 }
 
-// What reading of eight bytes or more gives.
-#[derive(Clone, Copy)]
-pub struct Wide {
-    pub value: u64,
-    pub count: usize,
+impl TryFrom<u64> for VarInt {
+    type Error = Refusal;
+
+    ghost try_from_gives = { λ x r. convert_outcome r ≡ convert_number x };
+
+    fn try_from(x: u64) -> Result<VarInt, Refusal> {
+        if VarInt::MAX.0 < x {
+            return Err(Refusal::VarIntBoundsExceeded);
+        }
+        Ok(VarInt(x))
+    }
 }
 
-// What reading gives: the value and how many bytes it took.
-#[derive(Clone, Copy)]
-pub enum Decoded {
-    Value(u64, usize),
-    Refused(Refusal),
+impl From<VarInt> for u64 {
+    ghost from_gives = { λ v x. x ≡ v.0 };
+
+    fn from(v: VarInt) -> u64 {
+        v.0
+    }
 }
 
 impl VarInt {
@@ -42,75 +50,54 @@ impl VarInt {
     // The longest form, in bytes.
     pub const MAX_SIZE: usize = 8;
 
-    pub fn from_u32(x: u32) -> VarInt
-        ensures { result.0 ≡ x }
-    {
-        VarInt(x as u64)
-    }
-
-    pub fn from_u64(x: u64) -> Converted
-        ensures { convert_outcome result ≡ convert_number x }
-    {
-        if VarInt::MAX.0 < x {
-            return Converted::Refused(Refusal::VarIntBoundsExceeded);
-        }
-        Converted::Number(VarInt(x))
-    }
-
-    pub fn into_inner(self) -> u64
-        ensures { result ≡ self.0 }
-    {
-        self.0
-    }
-
     // How many bytes the shortest form has.
-    pub fn size(self) -> Counted
-        ensures { count_outcome result ≡ size_number self.0 }
+    pub fn size(self) -> Result<usize, Refusal>
+        ensures { outcome_of result ≡ size_number self.0 }
     {
         let x = self.0;
         if VarInt::MAX.0 < x {
-            return Counted::Refused(Refusal::VarIntBoundsExceeded);
+            return Err(Refusal::VarIntBoundsExceeded);
         }
-        Counted::Count(size_of(x))
+        Ok(size_of(x))
     }
 
     // The number at the front of `src`. The one-byte form stands apart: most numbers are short.
-    pub fn decode(src: &[u8]) -> Decoded
-        ensures { read_outcome result ≡ read_number src.now }
+    pub fn decode(src: &[u8]) -> Result<(u64, usize), Refusal>
+        ensures { outcome_of result ≡ read_number src.now }
     {
         if src.len() == 0 {
-            return Decoded::Refused(Refusal::UnexpectedEnd);
+            return Err(Refusal::UnexpectedEnd);
         }
         let b = src[0];
         let tag = b >> 6;
         if tag == 0 {
-            return Decoded::Value(wide(b), 1);
+            return Ok((wide(b), 1));
         }
         decode_longer(tag, src)
     }
 
     // The same where eight bytes are there, with no branch on the number's width; 0 and 0 if there are fewer.
-    pub fn decode_wide(src: &[u8]) -> Wide
-        ensures { (accepted (result.value, result.count) ≡ read_wide src.now) × (result.count ≤ 8) }
+    pub fn decode_wide(src: &[u8]) -> (u64, usize)
+        ensures { (accepted result ≡ read_wide src.now) × (result.1 ≤ 8) }
     {
         if src.len() < VarInt::MAX_SIZE {
-            return Wide { value: 0, count: 0 };
+            return (0, 0);
         }
         wide_of(big8(src))
     }
 
     // Writes the shortest form to the front of `out`.
-    pub fn encode(self, out: &mut [u8]) -> Counted
-        ensures { (count_outcome result, out.new) ≡ write_number self.0 out.old }
+    pub fn encode(self, out: &mut [u8]) -> Result<usize, Refusal>
+        ensures { (outcome_of result, out.new) ≡ write_number self.0 out.old }
     {
         let x = self.0;
         if VarInt::MAX.0 < x {
-            return Counted::Refused(Refusal::VarIntBoundsExceeded);
+            return Err(Refusal::VarIntBoundsExceeded);
         }
         if out.len() < size_of(x) {
-            return Counted::Refused(Refusal::BufferTooShort);
+            return Err(Refusal::BufferTooShort);
         }
-        Counted::Count(put(x, out))
+        Ok(put(x, out))
     }
 }
 
@@ -131,40 +118,37 @@ pub fn size_of(x: u64) -> usize
 }
 
 // The number at the front of eight bytes, which make `word`.
-fn wide_of(word: u64) -> Wide
-    ensures { (accepted (result.value, result.count) ≡ read_number (bytes_of 8 word)) × (result.count ≤ 8) }
+fn wide_of(word: u64) -> (u64, usize)
+    ensures { (accepted result ≡ read_number (bytes_of 8 word)) × (result.1 ≤ 8) }
 {
     let tag = (word >> 62) as u32;
     let bits = 8u32 << tag;
-    Wide {
-        value: (word & VarInt::MAX.0) >> (64 - bits),
-        count: 1usize << tag,
-    }
+    ((word & VarInt::MAX.0) >> (64 - bits), 1usize << tag)
 }
 
 // A number of two, four or eight bytes, as `tag` of the first byte says.
-fn decode_longer(tag: u8, src: &[u8]) -> Decoded
+fn decode_longer(tag: u8, src: &[u8]) -> Result<(u64, usize), Refusal>
     requires { (0 < length src.now) × (tag ≡ get_or src.now 0 0 / 64) × (0 < tag) }
-    ensures { read_outcome result ≡ read_number src.now }
+    ensures { outcome_of result ≡ read_number src.now }
 {
     let high = src[0] & 0x3f;
     if tag == 1 {
         if src.len() < 2 {
-            return Decoded::Refused(Refusal::UnexpectedEnd);
+            return Err(Refusal::UnexpectedEnd);
         }
-        return Decoded::Value(word2(src[1], high), 2);
+        return Ok((word2(src[1], high), 2));
     }
     if tag == 2 {
         if src.len() < 4 {
-            return Decoded::Refused(Refusal::UnexpectedEnd);
+            return Err(Refusal::UnexpectedEnd);
         }
-        return Decoded::Value(word4(src[3], src[2], src[1], high), 4);
+        return Ok((word4(src[3], src[2], src[1], high), 4));
     }
     if src.len() < 8 {
-        return Decoded::Refused(Refusal::UnexpectedEnd);
+        return Err(Refusal::UnexpectedEnd);
     }
     let upper = word4(src[3], src[2], src[1], high);
-    Decoded::Value((upper << 32) | word4(src[7], src[6], src[5], src[4]), 8)
+    Ok(((upper << 32) | word4(src[7], src[6], src[5], src[4]), 8))
 }
 
 // Each stores one form of `x`, for which there is room.

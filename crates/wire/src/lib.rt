@@ -6,7 +6,7 @@ ghost use Rattle.std.specs.Prelude.{◌≡◌, true, ◌<◌, ◌≤◌, length,
 ghost use Rattle.catalogue.specs.Catalogue.{parameter};
 ghost use Rattle.wire.specs.Wire.{put, head_of, due_value, due_number};
 
-use refusal::Counted;
+use refusal::Refusal;
 use varint::VarInt;
 
 // Copies the bytes.
@@ -65,10 +65,10 @@ fn put_head(id: u64, len: u64, out: &mut [u8]) -> usize
     requires { 16 ≤ length out.old }
     ensures { (result ≡ length (head_of id len)) × (take result out.new ≡ head_of id len) }
 {
-    let Counted::Count(a) = VarInt(id).encode(out) else {
+    let Ok(a) = VarInt(id).encode(out) else {
         return 0;
     };
-    let Counted::Count(b) = VarInt(len).encode(&mut out[a..]) else {
+    let Ok(b) = VarInt(len).encode(&mut out[a..]) else {
         return 0;
     };
     a + b
@@ -104,7 +104,7 @@ pub fn put_number(due: bool, id: u64, x: u64, out: &mut [u8]) -> usize
         return put_short_number(id, x, out);
     }
     let mut value = [0u8; 8];
-    let Counted::Count(n) = VarInt(x).encode(&mut value) else {
+    let Ok(n) = VarInt(x).encode(&mut value) else {
         return 0;
     };
     put_due(id, &value[..n], out)
@@ -117,7 +117,7 @@ fn put_short_number(id: u64, x: u64, out: &mut [u8]) -> usize
     if out.len() < 2 {
         return 0;
     }
-    let Counted::Count(n) = VarInt(x).encode(&mut out[2..]) else {
+    let Ok(n) = VarInt(x).encode(&mut out[2..]) else {
         return 0;
     };
     out[0] = id as u8;

@@ -17,7 +17,7 @@ use Rattle.varint.specs.Number.{bound, form, tag_of}
 use Rattle.connection_id.specs.ConnectionId.{cid_of, formed_cid}
 use Rattle.record.specs.declared.TransportParameters.{TransportParameters}
 use Rattle.record.specs.declared.OptionalConnectionId.{OptionalConnectionId}
-use Rattle.record.specs.declared.OptionalNumber.TheVariants.{Present}
+use Rattle.std.specs.Prelude.{Some}
 use Rattle.record.specs.declared.ReservedTransportParameter.{ReservedTransportParameter}
 use Rattle.catalogue.specs.Catalogue.{Kind, reserved, places, ids, id_at, kinds, kind_at, defaults, parameter, parameter_if, widest}
 use Rattle.record.specs.Values.{number_out, optional_out, flag_out, cid_out, token_of, token_out, family_out, address_out, no_order, other_values, values_of}
@@ -90,10 +90,10 @@ longest_record =
     record {
       numbers = replicate 11 (bound - 1);
       disable_active_migration = true;
-      max_datagram_frame_size = Present (bound - 1);
+      max_datagram_frame_size = Some (bound - 1);
       initial_src_cid = longest_cid;
       grease_quic_bit = true;
-      min_ack_delay = Present (bound - 1);
+      min_ack_delay = Some (bound - 1);
       original_dst_cid = longest_cid;
       retry_src_cid = longest_cid;
       stateless_reset_token = record { present = true; token = token_of (replicate 16 255) };

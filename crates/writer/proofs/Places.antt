@@ -16,8 +16,8 @@ use Rattle.refusal.proofs.Laws.{all_at}
 use Rattle.varint.specs.Number.{bound, number_bytes}
 use Rattle.connection_id.specs.ConnectionId.{cid_bytes}
 use Rattle.record.specs.declared.TransportParameters.{TransportParameters}
-use Rattle.record.specs.declared.OptionalNumber.{OptionalNumber}
-use Rattle.record.specs.declared.OptionalNumber.TheVariants.{Absent, Present}
+use Rattle.record.specs.Optional.{OptionalNumber}
+use Rattle.std.specs.Prelude.{None, Some}
 use Rattle.record.specs.declared.ReservedTransportParameter.{ReservedTransportParameter}
 use Rattle.catalogue.specs.Catalogue.{Kind, number, flag, cid, token, address, reserved, places, id_at, kind_at, defaults, widest, parameter, parameter_if}
 use Rattle.catalogue.proofs.Places.{id_lt}
@@ -71,8 +71,8 @@ number_out_lem id d x h k = number_is_due id x (not (eqb x d)) h k ∙ go (eqb x
 -- or if present
 optional_out_lem : (id : ℕ) (o : OptionalNumber) → id < bound → formed_optional o ≡ true → due_number (is_present o) id (least o) ≡ parameter_if id (optional_out o)
 unfolding optional_out formed_optional
-optional_out_lem id Absent h f = number_is_due id 0 false h (omega arith)
-optional_out_lem id (Present x) h f = number_is_due id x true h (ltb-true _ _ f)
+optional_out_lem id None h f = number_is_due id 0 false h (omega arith)
+optional_out_lem id (Some x) h f = number_is_due id x true h (ltb-true _ _ f)
 
 -- a value of a kind, which is short
 widest_le : (k : Kind) → widest k ≤ 61

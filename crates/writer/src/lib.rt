@@ -3,7 +3,7 @@
 
 ghost use Rattle.std.specs.Prelude.{◌≡◌, [], ◌∷◌, ◌++◌, true, ◌+◌, ◌<◌, ◌≤◌, length, take, drop};
 ghost use Rattle.refusal.specs.Outcome.{pick, front, store};
-ghost use Rattle.refusal.specs.Answer.{count_outcome};
+ghost use Rattle.refusal.specs.Answer.{outcome_of};
 ghost use Rattle.connection_id.specs.ConnectionId.{cid_bytes, formed_cid};
 ghost use Rattle.catalogue.specs.Catalogue.{places, id_at};
 ghost use Rattle.record.specs.Record.{is_present, least, formed_optional_cid, formed_address, formed_reserved, well_formed};
@@ -25,10 +25,10 @@ use catalogue::{
 use laying::{lay_field, lay_number};
 use order::is_permutation;
 use record::{
-    OptionalConnectionId, OptionalNumber, OptionalResetToken, PreferredAddress,
-    ReservedTransportParameter, ResetToken, TransportParameters,
+    OptionalConnectionId, OptionalResetToken, PreferredAddress, ReservedTransportParameter,
+    ResetToken, TransportParameters,
 };
-use refusal::{Counted, Refusal};
+use refusal::Refusal;
 use wire::put_bytes;
 use words::size;
 
@@ -158,7 +158,7 @@ fn put_flag(
 fn put_optional(
     p: usize,
     id: u64,
-    o: OptionalNumber,
+    o: Option<u64>,
     at: usize,
     starts: &mut [usize; PLACES + 1],
     out: &mut [u8],
@@ -166,7 +166,7 @@ fn put_optional(
     requires { Next p at starts.old out.old }
     ensures { (result, out.new, starts.new) ≡ laid (due_number (is_present o) id (least o) ∷ []) (p + 1) at out.old starts.old }
 {
-    put_number(p, o.is_present(), id, o.or_zero(), at, starts, out)
+    put_number(p, o.is_some(), id, o.unwrap_or(0), at, starts, out)
 }
 
 // Each lays those due at some places.
@@ -336,18 +336,18 @@ fn put_laid(
     starts: &[usize; PLACES + 1],
     parts: &[u8],
     out: &mut [u8],
-) -> Counted
+) -> Result<usize, Refusal>
     requires { Ready n present order.now starts.now parts.now }
-    ensures { (count_outcome result, out.new)
+    ensures { (outcome_of result, out.new)
         ≡ store (bytes_in n present order.now starts.now parts.now) out.old }
 {
     if out.len() < n {
-        return Counted::Refused(Refusal::BufferTooShort);
+        return Err(Refusal::BufferTooShort);
     }
     if present {
-        return Counted::Count(put_ordered(n, order, starts, parts, out));
+        return Ok(put_ordered(n, order, starts, parts, out));
     }
-    Counted::Count(put_bytes(&parts[..n], out))
+    Ok(put_bytes(&parts[..n], out))
 }
 
 // Whether the places can be written so: where no order is present, they are in catalogue order.
@@ -364,15 +364,15 @@ fn is_order(present: bool, order: &[u8; PLACES]) -> bool
 // Writes the record to the front of `out`, in its order. It is laid in an array first, so that the count is known before a byte of `out` is
 // touched.
 #[tactic(auto, using(crate::proofs::Answers::write_ill, crate::proofs::Answers::write_invalid), unfolding(crate::specs::Writing::order_of))]
-pub fn write(r: TransportParameters, out: &mut [u8]) -> Counted
-    ensures { (count_outcome result, out.new) ≡ write r out.old }
+pub fn write(r: TransportParameters, out: &mut [u8]) -> Result<usize, Refusal>
+    ensures { (outcome_of result, out.new) ≡ write r out.old }
 {
     if !r.is_well_formed() {
-        return Counted::Refused(Refusal::IllFormed);
+        return Err(Refusal::IllFormed);
     }
     let places = r.write_order.places;
     if !is_order(r.write_order.present, &places) {
-        return Counted::Refused(Refusal::InvalidOrder);
+        return Err(Refusal::InvalidOrder);
     }
     let mut starts = [0usize; PLACES + 1];
     let mut parts = [0u8; SCRATCH];

@@ -2,7 +2,6 @@
 --     into_count                  a code and a count, by the outcome of an answer
 --     into_code                   a code by itself
 --     given_, not_                an operation on a result that came first
---     decoded_                    the outcome that an answer and the ID beside it stand for
 --     build_or                    building on an ill-formed ID in place of none
 use Prim.Native.Nat.{ℕ}
 use mathlib.Core.Path.{◌≡◌, refl, ap, sym, ◌∙◌}
@@ -12,14 +11,9 @@ use lib.ListN.{length}
 use lib.Dec.{eqb}
 use borrow.Author.Tests.{eq-eqb, ne_eqb}
 use Rattle.refusal.specs.Outcome.{Outcome, accepted, refused, pick, all}
-use Rattle.refusal.specs.Number.{number_of}
-use Rattle.refusal.specs.declared.Refusal.{Refusal}
-use Rattle.refusal.specs.declared.Counted.TheVariants.{Count, Refused as RefusedC}
 use Rattle.refusal.proofs.Laws.{pick_cases}
 use Rattle.connection_id.specs.declared.ConnectionId.{ConnectionId}
-use Rattle.connection_id.specs.declared.DecodedCid.{DecodedCid}
-use Rattle.connection_id.specs.ConnectionId.{formed_cid, read_cid}
-use Rattle.connection_id.specs.Answer.{with_cid, read_outcome, settled}
+use Rattle.connection_id.specs.ConnectionId.{formed_cid}
 use Rattle.building.specs.declared.Settings.{Settings}
 use Rattle.building.specs.Building.{settings_fit, build}
 use Rattle.image.specs.Image.{cid_from}
@@ -62,14 +56,6 @@ module _ {A : Type 0} (o : Outcome A) (f : A → List ℕ → Outcome ℕ × Lis
 
   pub not_counted : (r c n : ℕ) → o ≡ refused r → c ≡ r → (c, out, n) ≡ counted (given o f out) n
   not_counted r c n e h = rw (e, h)
-
--- OUTCOMES OF CALLEES
-module _ (d : DecodedCid) (s : List ℕ) (e : (read_outcome d, d.cid) ≡ settled (read_cid s)) where
-  pub decoded_in : (n : ℕ) → d.answer ≡ Count n → read_cid s ≡ accepted (d.cid, n)
-  decoded_in n h = sym (ap (λ p. p.0) e) ∙ ap (with_cid d.cid) h
-
-  pub decoded_out : (r : Refusal) → d.answer ≡ RefusedC r → read_cid s ≡ refused (number_of r)
-  decoded_out r h = sym (ap (λ p. p.0) e) ∙ ap (with_cid d.cid) h
 
 -- BUILDING
 twice : {A : Type 0} (t : Bool) (a b : A) → pick t a b ≡ pick t (pick t a b) b

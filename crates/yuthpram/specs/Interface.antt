@@ -7,7 +7,7 @@ use Rattle.varint.specs.Number.{size_number, read_number, write_number}
 use Rattle.connection_id.specs.declared.ConnectionId.{ConnectionId}
 use Rattle.connection_id.specs.ConnectionId.{read_cid, write_cid}
 use Rattle.record.specs.declared.TransportParameters.{TransportParameters}
-use Rattle.record.specs.declared.OptionalNumber.TheVariants.{Absent, Present}
+use Rattle.std.specs.Prelude.{None, Some}
 use Rattle.rules.specs.declared.Side.{Side}
 use Rattle.rules.specs.declared.Side.TheVariants.{Client, Server}
 use Rattle.record.specs.Record.{default_record}
@@ -111,10 +111,10 @@ settings_from s =
       max_concurrent_uni_streams = get_or s 1 0;
       receive_window = get_or s 2 0;
       stream_receive_window = get_or s 3 0;
-      max_idle_timeout = pick (eqb (get_or s 4 0) 0) Absent (Present (get_or s 4 0));
+      max_idle_timeout = pick (eqb (get_or s 4 0) 0) None (Some (get_or s 4 0));
       max_udp_payload_size = get_or s 5 0;
       grease_quic_bit = not (eqb (get_or s 6 0) 0);
-      datagram_receive_buffer_size = pick (eqb (get_or s 7 0) 0) Absent (Present (get_or s 8 0));
+      datagram_receive_buffer_size = pick (eqb (get_or s 7 0) 0) None (Some (get_or s 8 0));
       cid_len = get_or s 9 0;
       side = side_of (get_or s 10 0);
       migration = not (eqb (get_or s 11 0) 0);

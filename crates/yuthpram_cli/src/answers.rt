@@ -4,14 +4,13 @@ use crate::input::first;
 use catalogue::{MAX_EXTENSION, PLACES};
 use explain::{note_culprit, note_order_fault, note_reading, note_refusal};
 use image::RECORD_SIZE;
-use order::OrderFault;
 use record::TransportParameters;
 use reduced::note_reduced;
-use refusal::{Answer, Counted, Refusal};
+use refusal::Refusal;
 use rules::Side;
 use show::rows::{ORDER, value_at};
 use text::out::{Out, Stream, note, put_count, say, say_hex, say_number};
-use varint::{Decoded, VarInt};
+use varint::VarInt;
 
 fn refused(out: &mut Out, r: Refusal) -> Status {
     note_refusal(out, r);
@@ -27,13 +26,13 @@ fn unread(out: &mut Out, side: Side, r: Refusal, src: &[u8]) -> Status {
 // Shows the record that reading gave, and before it its length.
 fn show_record(out: &mut Out, r: TransportParameters) {
     let mut record = [0u8; RECORD_SIZE];
-    image::image_to(r, &mut record);
+    let _ = image::image_to(r, &mut record);
     note_length(out, &record);
     show::show(out, &record);
 }
 
 fn note_length(out: &mut Out, record: &[u8]) {
-    if let Counted::Count(n) = by_image::length(record) {
+    if let Ok(n) = by_image::length(record) {
         note(out, b"length ");
         put_count(out, Stream::Error, n);
         note(out, b"\n");
@@ -42,29 +41,28 @@ fn note_length(out: &mut Out, record: &[u8]) {
 
 // Reads an extension, and shows it or only tells that it is accepted.
 pub fn read(out: &mut Out, side: Side, src: &[u8], is_shown: bool) -> Status {
-    let reading = reader::read(side, src);
-    let answer = reading.answer;
-    if let Answer::Refused(r) = answer {
-        return unread(out, side, r, src);
-    }
-    if is_shown {
-        let r = reading.parameters;
-        show_record(out, r);
-    } else {
-        say(out, b"accepted\n");
+    match reader::read(side, src) {
+        Err(r) => return unread(out, side, r, src),
+        Ok(r) => {
+            if is_shown {
+                show_record(out, r);
+            } else {
+                say(out, b"accepted\n");
+            }
+        }
     }
     Status::Answered
 }
 
 // Bytes that were stored at the front of `bytes`.
-fn say_stored(out: &mut Out, stored: Counted, bytes: &[u8]) -> Status {
+fn say_stored(out: &mut Out, stored: Result<usize, Refusal>, bytes: &[u8]) -> Status {
     match stored {
-        Counted::Count(n) => {
+        Ok(n) => {
             say_hex(out, bytes, 0, n);
             say(out, b"\n");
             Status::Answered
         }
-        Counted::Refused(r) => refused(out, r),
+        Err(r) => refused(out, r),
     }
 }
 
@@ -80,7 +78,7 @@ fn order_in<'a>(record: &'a [u8]) -> &'a [u8] {
 
 // Tells what is wrong with an order.
 pub fn order_fault(out: &mut Out, order: &[u8]) -> Status {
-    let OrderFault::At(_) = order::order_fault(order) else {
+    let Some(_) = order::order_fault(order) else {
         say(out, b"a permutation of 0 to 20\n");
         return Status::Answered;
     };
@@ -97,7 +95,7 @@ pub fn write(out: &mut Out, text: &[u8]) -> Status {
     }
     let mut bytes = [0u8; MAX_EXTENSION];
     let stored = by_image::write(&record, &mut bytes);
-    let Counted::Refused(r) = stored else {
+    let Err(r) = stored else {
         note_length(out, &record);
         return say_stored(out, stored, &bytes);
     };
@@ -114,12 +112,12 @@ pub fn length(out: &mut Out, text: &[u8]) -> Status {
         return Status::Misused;
     }
     match by_image::length(&record) {
-        Counted::Count(n) => {
+        Ok(n) => {
             put_count(out, Stream::Output, n);
             say(out, b"\n");
             Status::Answered
         }
-        Counted::Refused(r) => refused(out, r),
+        Err(r) => refused(out, r),
     }
 }
 
@@ -128,7 +126,7 @@ fn unresumed(out: &mut Out, r: Refusal, record: &[u8], cached: &[u8]) -> Status 
     note_refusal(out, r);
     if let Refusal::LimitReduced = r {
         note_reduced(out, record, cached);
-    } else if let Counted::Refused(_) = by_image::length(cached) {
+    } else if let Err(_) = by_image::length(cached) {
         note(out, b"it is the remembered one\n");
     }
     Status::Refused
@@ -137,18 +135,18 @@ fn unresumed(out: &mut Out, r: Refusal, record: &[u8], cached: &[u8]) -> Status 
 // Tells whether a record may be resumed to from a remembered one, by the images of both, and if not, which limits it reduces.
 pub fn validate_resumption_from(out: &mut Out, record: &[u8], cached: &[u8]) -> Status {
     match by_image::validate_resumption_from(record, cached) {
-        Answer::Accepted => {
+        Ok(()) => {
             say(out, b"accepted\n");
             Status::Answered
         }
-        Answer::Refused(r) => unresumed(out, r, record, cached),
+        Err(r) => unresumed(out, r, record, cached),
     }
 }
 
 // Which rule a record breaks: that which its extension breaks, or that no family that is given is all zero.
 fn note_rule(out: &mut Out, side: Side, record: &[u8]) {
     let mut bytes = [0u8; MAX_EXTENSION];
-    let Counted::Count(n) = by_image::write(record, &mut bytes) else {
+    let Ok(n) = by_image::write(record, &mut bytes) else {
         return;
     };
     note_culprit(out, side, first(n, &bytes));
@@ -160,7 +158,7 @@ fn check_record(out: &mut Out, side: Side, text: &[u8]) -> Status {
     if !form::fill(out, text, &mut record) {
         return Status::Misused;
     }
-    let Answer::Refused(r) = by_image::check(&record, side) else {
+    let Err(r) = by_image::check(&record, side) else {
         say(out, b"legal\n");
         return Status::Answered;
     };
@@ -183,8 +181,8 @@ pub fn tidy(out: &mut Out, side: Side, src: &[u8]) -> Status {
     let mut bytes = [0u8; MAX_EXTENSION];
     let stored = tidy::tidy(side, src, &mut bytes);
     match stored {
-        Counted::Refused(r) => unread(out, side, r, src),
-        Counted::Count(n) => {
+        Err(r) => unread(out, side, r, src),
+        Ok(n) => {
             say_stored(out, stored, &bytes);
             if n <= src.len() {
                 put_count(out, Stream::Error, src.len() - n);
@@ -199,14 +197,14 @@ pub fn tidy(out: &mut Out, side: Side, src: &[u8]) -> Status {
 
 pub fn decode(out: &mut Out, src: &[u8]) -> Status {
     match VarInt::decode(src) {
-        Decoded::Value(x, n) => {
+        Ok((x, n)) => {
             say_number(out, x);
             say(out, b" (");
             put_count(out, Stream::Output, n);
             say(out, b")\n");
             Status::Answered
         }
-        Decoded::Refused(r) => refused(out, r),
+        Err(r) => refused(out, r),
     }
 }
 

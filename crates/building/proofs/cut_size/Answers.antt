@@ -2,10 +2,10 @@
 use Rattle.building.specs.Building.{cut_size}
 use Rattle.building.proofs.cut_size.Goals as goal
 
-pub returns-in-Absent : goal.returns-in-Absent
+pub returns-in-None : goal.returns-in-None
 unfolding cut_size
-returns-in-Absent c = rw c.in-Absent.is
+returns-in-None c = rw c.in-None.is
 
-pub returns-in-Present : goal.returns-in-Present
+pub returns-in-Some : goal.returns-in-Some
 unfolding cut_size
-returns-in-Present c = rw (c.minimum.ensures, c.in-Present.is)
+returns-in-Some c = rw (c.minimum.ensures, c.in-Some.is)

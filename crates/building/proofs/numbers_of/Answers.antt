@@ -5,4 +5,4 @@ use Rattle.building.proofs.numbers_of.Goals as goal
 
 pub returns : goal.returns
 unfolding numbers_from defaults
-returns c = rw c.or_zero.ensures
+returns c = rw c.unwrap_or.ensures

@@ -1,13 +1,14 @@
 -- `by_image::check` meets its contract. Assumes nothing.
+use Rattle.refusal.proofs.Laws.{raised}
 use Rattle.rules.specs.Rules.{check_record}
 use Rattle.by_image.specs.ByImage.{image_check}
 use Rattle.by_image.proofs.Answers.{then_done, then_refused}
 use Rattle.by_image.proofs.check.Goals as goal
 
-pub returns-in-Accepted : goal.returns-in-Accepted
+pub returns-in_err-r : goal.returns-in_err-r
 unfolding image_check
-returns-in-Accepted c = then_done _ _ _ _ c.record_from-imaged.ensures (check_record c.args.side) c.in-Accepted.is _ c.check.ensures
+returns-in_err-r c = then_refused _ (check_record c.args.side) _ c.in_err-r.ensures _ (raised _ _ c.from_residual.ensures.1)
 
-pub returns-in-Refused : goal.returns-in-Refused
+pub returns : goal.returns
 unfolding image_check
-returns-in-Refused c = then_refused _ _ _ _ c.record_from-imaged.ensures (check_record c.args.side) _ c.in-Refused.is
+returns c = then_done _ (check_record c.args.side) _ c.in_ok-r.ensures _ c.check.ensures

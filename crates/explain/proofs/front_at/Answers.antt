@@ -6,6 +6,6 @@ use Rattle.explain.proofs.front_at.Goals as goal
 
 pub returns : goal.returns
 returns c =
-    let i = sym (ap parameter_outcome c.in-Whole.is) ∙ c.parameter_at.ensures in
+    let i = sym (ap parameter_outcome c.in-Ok.is) ∙ c.parameter_at.ensures in
     let w = within _ _ _ _ _ c.requires i in
     (w.start, w.end)

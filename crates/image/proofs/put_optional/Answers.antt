@@ -5,4 +5,4 @@ use Rattle.image.proofs.put_optional.Goals as goal
 
 pub returns : goal.returns
 unfolding eight_bytes
-returns c = c.put_behind.ensures ∙ rw (c.flag_byte.ensures, c.is_present.ensures, c.bytes8-bytes.ensures, c.or_zero.ensures)
+returns c = c.put_behind.ensures ∙ rw (c.flag_byte.ensures, c.is_some.ensures, c.bytes8-bytes.ensures, c.unwrap_or.ensures)

@@ -7,11 +7,11 @@ use Rattle.imaged.proofs.record_from.Goals as goal
 
 pub returns-then-not-is_image : goal.returns-then-not-is_image
 unfolding record_from
-returns-then-not-is_image c = rw (sym c.is_image.ensures ∙ c.if-not-is_image.true, c.default-parameters.ensures)
+returns-then-not-is_image c = rw (sym c.is_image.ensures ∙ c.if-not-is_image.true)
 
-pub record_at-parameters-requires : goal.record_at-parameters-requires
-record_at-parameters-requires c = omega (arith, image_long c.args.image.now (sym c.is_image.ensures ∙ c.if-not-is_image.false))
+pub record_at-requires : goal.record_at-requires
+record_at-requires c = omega (arith, image_long c.args.image.now (sym c.is_image.ensures ∙ c.if-not-is_image.false))
 
 pub returns : goal.returns
 unfolding record_from
-returns c = rw (sym c.is_image.ensures ∙ c.if-not-is_image.false, c.record_at-parameters.ensures)
+returns c = rw (sym c.is_image.ensures ∙ c.if-not-is_image.false, c.record_at.ensures)

@@ -1,7 +1,7 @@
 -- `index::index` meets its contract. Assumes nothing.
-use mathlib.Core.Path.{refl, ap, sym, ◌∙◌}
+use mathlib.Core.Path.{refl}
+use Rattle.refusal.proofs.Laws.{raised}
 use Rattle.catalogue.specs.Catalogue.{defaults}
-use Rattle.index.specs.Answer.{scan_outcome}
 use Rattle.index.specs.Index.{initial_kept}
 use Rattle.index.proofs.Sound.{scan_sound, address_within}
 use Rattle.index.proofs.Settled.{stopped}
@@ -12,15 +12,7 @@ unfolding initial_kept defaults
 scan-requires c = (refl, refl)
 
 pub is_allowed-requires : goal.is_allowed-requires
-is_allowed-requires c =
-    let a = c.args in
-    let x = c.scan in
-    let e = sym (ap (λ r. scan_outcome r x.new.kept x.new.lens) c.in-Marks.is) ∙ x.ensures in
-    address_within a.src.now _ (scan_sound a.src.now _ e)
+is_allowed-requires c = let s = c.args.src.now in address_within s _ (scan_sound s _ c.in_ok-marks.ensures)
 
-pub returns-in-Stopped : goal.returns-in-Stopped
-returns-in-Stopped c =
-    let a = c.args in
-    let x = c.scan in
-    let e = sym (ap (λ r. scan_outcome r x.new.kept x.new.lens) c.in-Stopped.is) ∙ x.ensures in
-    c.refuse.ensures ∙ stopped a.side a.src.now _ e
+pub returns-in_err-marks : goal.returns-in_err-marks
+returns-in_err-marks c = rw (raised _ _ c.from_residual.ensures.1) (stopped c.args.side c.args.src.now _ c.in_err-marks.ensures)

@@ -2,4 +2,4 @@
 use Rattle.length.proofs.optional_length.Goals as goal
 
 pub returns : goal.returns
-returns c = rw (c.is_present.ensures, c.or_zero.ensures) at c.number_length.ensures
+returns c = rw (c.is_some.ensures, c.unwrap_or.ensures) at c.number_length.ensures

@@ -1,5 +1,5 @@
 -- `reader::address_of` meets its contract. Assumes nothing.
-use Rattle.reader.proofs.Built.{address_facts, cid_new, id_part, token_part, address_built}
+use Rattle.reader.proofs.Built.{address_facts, made_ok, cid_new, id_part, token_part, address_built}
 use native.Mathlib.Omega.{arith}
 use borrow.Author.Rules.{rules}
 use Rattle.reader.proofs.address_of.Goals as goal
@@ -31,7 +31,11 @@ slice_bounds-bytes16-start c = let h = address_facts c.args.v.now c.requires in 
 pub bytes16-bytes-requires : goal.bytes16-bytes-requires
 bytes16-bytes-requires c = token_part c.args.v.now c.requires
 
+pub unwrap-connection_id-requires : goal.unwrap-connection_id-requires
+unwrap-connection_id-requires c = made_ok _ _ c.new.ensures (id_part c.args.v.now c.requires)
+
 pub returns : goal.returns
 returns c =
     let v = c.args.v.now in
-    address_built v c.requires _ _ _ _ c.v4_of-address_v4.ensures c.v6_of-address_v6.ensures (cid_new c.new-d.result _ c.new-d.ensures (id_part v c.requires)) c.bytes16-bytes.ensures
+    let d = cid_new _ _ _ c.new.ensures (id_part v c.requires) c.unwrap-connection_id.ensures in
+    address_built v c.requires _ _ _ _ c.v4_of-address_v4.ensures c.v6_of-address_v6.ensures d c.bytes16-bytes.ensures

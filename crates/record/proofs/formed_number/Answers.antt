@@ -3,10 +3,10 @@ use Rattle.record.proofs.Tests.{at_most}
 use Rattle.record.specs.Record.{formed_optional}
 use Rattle.record.proofs.formed_number.Goals as goal
 
-pub returns-in-Absent : goal.returns-in-Absent
+pub returns-in-None : goal.returns-in-None
 unfolding formed_optional
-returns-in-Absent c = rw c.in-Absent.is
+returns-in-None c = rw c.in-None.is
 
-pub returns-in-Present : goal.returns-in-Present
+pub returns-in-Some : goal.returns-in-Some
 unfolding formed_optional
-returns-in-Present c = rw c.in-Present.is (at_most c.in-Present.x)
+returns-in-Some c = rw c.in-Some.is (at_most c.in-Some.x)

@@ -7,12 +7,12 @@ use Rattle.resumption.specs.Resumption.{size_rank}
 use Rattle.resumption.proofs.Laws.{told, false≢true}
 use Rattle.resumption.proofs.at_least.Goals as goal
 
-pub returns-in-Absent : goal.returns-in-Absent
+pub returns-in-None : goal.returns-in-None
 unfolding size_rank
-returns-in-Absent c =
-    told _ _ _ _ _ refl (ap size_rank c.in-Absent.is) (λ h. omega (arith, eqb-true, ltb-true, false≢true))
+returns-in-None c =
+    told _ _ _ _ _ refl (ap size_rank c.in-None.is) (λ h. omega (arith, eqb-true, ltb-true, false≢true))
     (λ h. omega (arith, eqb-false, ltb-false, true≢false))
 
-pub returns-in-Present : goal.returns-in-Present
+pub returns-in-Some : goal.returns-in-Some
 unfolding size_rank
-returns-in-Present c = told _ _ _ _ _ refl (ap size_rank c.in-Present.is) (λ h. omega (arith, leb-true)) (λ h. omega (arith, leb-false))
+returns-in-Some c = told _ _ _ _ _ refl (ap size_rank c.in-Some.is) (λ h. omega (arith, leb-true)) (λ h. omega (arith, leb-false))

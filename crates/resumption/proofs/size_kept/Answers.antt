@@ -6,9 +6,9 @@ use Rattle.resumption.specs.Resumption.{size_rank}
 use Rattle.resumption.proofs.Laws.{told}
 use Rattle.resumption.proofs.size_kept.Goals as goal
 
-pub returns-in-Absent : goal.returns-in-Absent
+pub returns-in-None : goal.returns-in-None
 unfolding size_rank
-returns-in-Absent c = told _ _ _ _ _ (ap size_rank c.in-Absent.is) refl (λ h. omega arith) (λ h. omega (arith, true≢false))
+returns-in-None c = told _ _ _ _ _ (ap size_rank c.in-None.is) refl (λ h. omega arith) (λ h. omega (arith, true≢false))
 
-pub returns-in-Present : goal.returns-in-Present
-returns-in-Present c = rw c.in-Present.is c.at_least.ensures
+pub returns-in-Some : goal.returns-in-Some
+returns-in-Some c = rw c.in-Some.is c.at_least.ensures

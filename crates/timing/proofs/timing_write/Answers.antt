@@ -2,8 +2,8 @@
 use Rattle.timing.proofs.Answers.{written_in, written_out}
 use Rattle.timing.proofs.timing_write.Goals as goal
 
-pub returns-in-Accepted : goal.returns-in-Accepted
-returns-in-Accepted c = let a = c.args in written_in _ _ _ _ c.record_from-imaged.ensures a.times a.out.now _ c.in-Accepted.is c.write_times.ensures
+pub returns-in-Ok : goal.returns-in-Ok
+returns-in-Ok c = let a = c.args in written_in _ _ c.record_from.ensures _ a.times a.out.now _ c.in-Ok.is c.write_times.ensures
 
-pub returns-in-Refused : goal.returns-in-Refused
-returns-in-Refused c = let a = c.args in written_out _ _ _ _ c.record_from-imaged.ensures a.times a.out.now _ _ c.in-Refused.is c.number.ensures
+pub returns-in-Err : goal.returns-in-Err
+returns-in-Err c = let a = c.args in written_out _ _ c.record_from.ensures a.times a.out.now _ _ c.in-Err.is c.number.ensures

@@ -2,4 +2,4 @@
 use Rattle.writer.proofs.put_optional.Goals as goal
 
 pub returns : goal.returns
-returns c = rw (c.is_present.ensures, c.or_zero.ensures) at c.put_number.ensures
+returns c = rw (c.is_some.ensures, c.unwrap_or.ensures) at c.put_number.ensures

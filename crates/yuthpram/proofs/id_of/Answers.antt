@@ -1,9 +1,10 @@
 -- `yuthpram::id_of` meets its contract. Assumes nothing.
-use Rattle.by_image.proofs.Answers.{answered_in, answered_out}
+use mathlib.Core.Path.{ap, sym, ◌∙◌}
+use Rattle.refusal.specs.Answer.{outcome_of}
 use Rattle.yuthpram.proofs.id_of.Goals as goal
 
-pub returns-in-Accepted : goal.returns-in-Accepted
-returns-in-Accepted c = rw (answered_in _ _ _ _ c.cid_from-imaged.ensures c.in-Accepted.is)
+pub returns-in-Ok : goal.returns-in-Ok
+returns-in-Ok c = rw (sym c.cid_from.ensures ∙ ap outcome_of c.in-Ok.is)
 
-pub returns-in-Refused : goal.returns-in-Refused
-returns-in-Refused c = rw (answered_out _ _ _ _ c.cid_from-imaged.ensures _ c.in-Refused.is)
+pub returns-in-Err : goal.returns-in-Err
+returns-in-Err c = rw (sym c.cid_from.ensures ∙ ap outcome_of c.in-Err.is)

@@ -6,4 +6,4 @@ use Rattle.yuthpram.proofs.yuthpram_default.Goals as goal
 
 pub returns : goal.returns
 unfolding record_default record_store
-returns c = rw (← c.default.ensures) (into_code _ _ _ c.image_to.ensures _ c.stored_code.ensures)
+returns c = rw (← c.default.ensures) (into_code _ _ _ c.image_to.ensures _ c.code_of.ensures)

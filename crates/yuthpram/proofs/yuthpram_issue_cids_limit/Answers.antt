@@ -1,12 +1,13 @@
 -- `yuthpram::yuthpram_issue_cids_limit` meets its contract. Assumes nothing.
 use Rattle.yuthpram.specs.Interface.{limit_read}
-use Rattle.by_image.proofs.Answers.{answered_in, answered_out}
+use mathlib.Core.Path.{ap, sym, ◌∙◌}
+use Rattle.refusal.specs.Answer.{outcome_of}
 use Rattle.yuthpram.proofs.yuthpram_issue_cids_limit.Goals as goal
 
-pub returns-in-Accepted : goal.returns-in-Accepted
+pub returns-in-Ok : goal.returns-in-Ok
 unfolding limit_read
-returns-in-Accepted c = rw (answered_in _ _ _ _ c.record_from-imaged.ensures c.in-Accepted.is, c.issue_cids_limit.ensures)
+returns-in-Ok c = rw (sym c.record_from.ensures ∙ ap outcome_of c.in-Ok.is, c.issue_cids_limit.ensures)
 
-pub returns-in-Refused : goal.returns-in-Refused
+pub returns-in-Err : goal.returns-in-Err
 unfolding limit_read
-returns-in-Refused c = rw (answered_out _ _ _ _ c.record_from-imaged.ensures _ c.in-Refused.is, c.number.ensures)
+returns-in-Err c = rw (sym c.record_from.ensures ∙ ap outcome_of c.in-Err.is, c.number.ensures)

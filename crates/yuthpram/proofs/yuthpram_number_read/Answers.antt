@@ -1,14 +1,14 @@
 -- `yuthpram::yuthpram_number_read` meets its contract. Assumes nothing.
 use mathlib.Core.Path.{ap}
-use Rattle.varint.specs.Answer.{read_outcome}
+use Rattle.refusal.specs.Answer.{outcome_of}
 use Rattle.yuthpram.specs.Interface.{number_read}
 use Rattle.yuthpram.proofs.Answers.{number_done, number_refused}
 use Rattle.yuthpram.proofs.yuthpram_number_read.Goals as goal
 
-pub returns-in-Value : goal.returns-in-Value
+pub returns-in-Ok : goal.returns-in-Ok
 unfolding number_read
-returns-in-Value c = number_done _ _ c.decode.ensures _ _ _ _ (ap read_outcome c.in-Value.is)
+returns-in-Ok c = number_done _ _ c.decode.ensures _ _ _ _ (ap outcome_of c.in-Ok.is)
 
-pub returns-in-Refused : goal.returns-in-Refused
+pub returns-in-Err : goal.returns-in-Err
 unfolding number_read
-returns-in-Refused c = number_refused _ _ c.decode.ensures _ _ _ _ (ap read_outcome c.in-Refused.is) c.number.ensures
+returns-in-Err c = number_refused _ _ c.decode.ensures _ _ _ _ (ap outcome_of c.in-Err.is) c.number.ensures

@@ -4,10 +4,10 @@ use Rattle.order.specs.Answer.{fault_position}
 use Rattle.yuthpram.specs.Interface.{order_position}
 use Rattle.yuthpram.proofs.yuthpram_order_fault.Goals as goal
 
-pub returns-in-At : goal.returns-in-At
+pub returns-in-Some : goal.returns-in-Some
 unfolding order_position
-returns-in-At c = rw (sym c.order_fault.ensures ∙ ap fault_position c.in-At.is, c.number.ensures)
+returns-in-Some c = rw (sym c.order_fault.ensures ∙ ap fault_position c.in-Some.is, c.number.ensures)
 
-pub returns-in-Nothing : goal.returns-in-Nothing
+pub returns-in-None : goal.returns-in-None
 unfolding order_position
-returns-in-Nothing c = rw (sym c.order_fault.ensures ∙ ap fault_position c.in-Nothing.is)
+returns-in-None c = rw (sym c.order_fault.ensures ∙ ap fault_position c.in-None.is)

@@ -5,4 +5,4 @@ use Rattle.yuthpram.proofs.yuthpram_read.Goals as goal
 
 pub returns : goal.returns
 unfolding record_read
-returns c = rw (← c.side_of.ensures) (into_code _ _ _ c.read.ensures _ c.stored_code.ensures)
+returns c = rw (← c.side_of.ensures) (into_code _ _ _ c.read.ensures _ c.code_of.ensures)

@@ -3,7 +3,7 @@ use Prim.Native.Nat.{◌<◌, ◌^◌}
 use native.Mathlib.Omega.{arith}
 use Rattle.varint.specs.Number.{convert_number}
 use borrow.Author.Tests.{lt-ltb, le-ltb}
-use Rattle.varint.proofs.VarInt.from_u64.Goals as goal
+use Rattle.varint.proofs.VarIntTryFromU64.try_from.Goals as goal
 
 pub returns-then-x : goal.returns-then-x
 unfolding convert_number
