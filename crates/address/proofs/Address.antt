@@ -1,19 +1,23 @@
 -- The value of a preferred address, part by part, and the parameter. Assumes nothing.
---     family_stored, family_wrote    an address and its port
---     cid_encoded, cid_never         the ID behind its length
+--     family_wrote                   an address and its port
+--     cid_encoded, cid_fits          the ID behind its length
 --     token_behind                   the token
 --     address_none, address_whole, address_off    the parameter: without room, with it, and where it is not due
 --     address_due                    in a well-formed record
-use Prim.Native.Nat.{ℕ, ◌+◌, ◌/◌, ◌%◌, ◌≤◌, ◌<◌}
-use mathlib.Core.List.{List, [], ◌∷◌, ◌++◌}
+use Prim.Native.Nat.{ℕ, ◌+◌, ◌-◌, ◌/◌, ◌%◌, ◌≤◌, ◌<◌}
+use mathlib.Core.List.{List, [], ◌∷◌, ◌++◌, append_assoc}
 use mathlib.Core.Path.{◌≡◌, refl, ap, sym, ◌∙◌}
 use mathlib.Core.Bool.{Bool, true, false, ◌&&◌}
 use native.Mathlib.Omega.{arith}
-use native.Mathlib.Nat.{mod-eq_of_lt, div-one}
-use native.Mathlib.Numerals.{add-one}
+use native.Mathlib.Nat.{div-one}
 use lib.ListN.{length, take, drop, set, length-append}
-use lib.Seq.{take-append_seam, drop-append-add, drop-drop, sets-eq}
+use lib.Seq.{take_at, drop_at, drop-drop}
+use Rattle.std.specs.Prelude.{Result as Answer, Ok, Err}
+use Rattle.std.specs.Result.{IsOk}
 use Rattle.refusal.specs.Outcome.{Outcome, accepted, refused, front}
+use Rattle.refusal.specs.Number.{number_of}
+use Rattle.refusal.specs.Answer.{outcome_of}
+use Rattle.refusal.specs.declared.Refusal.{Refusal}
 use Rattle.refusal.proofs.Laws.{all_at}
 use Rattle.words.specs.Words.{bytes_of}
 use Rattle.words.proofs.Laws.{and-true}
@@ -25,27 +29,23 @@ use Rattle.record.specs.Values.{Family, family_out}
 use Rattle.record.specs.Record.{formed_address}
 use Rattle.wire.specs.Wire.{put, due_value}
 use Rattle.wire.specs.Stored.{Wrote}
-use Rattle.wire.proofs.Stored.{lent, back, length_front, lent_room, stored_whole, wrote_few, wrote_then}
+use Rattle.wire.proofs.Stored.{lent, back, lent_room, stored_whole, wrote_few, wrote_then}
 use Rattle.wire.proofs.Put.{put_wrote, put_nil, not_due, due_short, short_none, short_whole}
 use Rattle.address.specs.Address.{address_bytes}
 
-pub family_stored : (n x : ℕ) (ip out m : List ℕ) → length ip + 2 ≤ length out → x < 65536 → (n, m) ≡ put ip out
-    → (n ≡ length ip) × (set (set m n (x / 256)) (n + 1) (x % 256) ≡ front (ip ++ bytes_of 2 x) out)
-unfolding front
-family_stored n x ip out m h k e =
-    let w = put_wrote (length out) n ip out m (omega arith) (omega arith) e in
-    let c = w.count in
-    let l : length m ≡ length out = ap length w.bytes ∙ length_front ip out (omega arith) in
-    let hi : x / 256 < 256 = omega arith in
-    let p : List ℕ = x / 256 ∷ x % 256 ∷ [] in
-    let t : take n m ≡ ip = rw (c, w.bytes) (take-append_seam ip (drop (length ip) out)) in
-    let d : drop (n + 2) m ≡ drop (length ip + 2) out = rw (c, w.bytes) (drop-append-add ip (drop (length ip) out) 2 ∙ drop-drop 2 (length ip) out) in
-    (c, rw (mod-eq_of_lt hi, div-one, add-one) (sets-eq p m n (omega arith) ∙ rw (t, d, length-append ip p)))
-
-pub family_wrote : (n : ℕ) (f : Family) (l m : List ℕ) → length f.1 ≡ n → m ≡ front (f.1 ++ bytes_of 2 f.2) l → Wrote (n + 2) (family_out f) l (n + 2) m
-unfolding family_out
-family_wrote n f l m e q =
-    record { count = rw (length-append f.1 (bytes_of 2 f.2)) (omega arith); few = omega arith; bytes = q }
+-- an address, and its port behind it
+pub family_wrote : (n : ℕ) (f : Family) (l ys port : List ℕ) → length f.1 ≡ n → n + 2 ≤ length l → ys ≡ f.1 → port ≡ f.2 / 256 % 256 ∷ f.2 % 256 ∷ []
+    → Wrote (n + 2) (family_out f) l (n + 2) (take n (ys ++ drop n l) ++ (port ++ drop (n + 2 - n) (drop n (ys ++ drop n l))))
+unfolding family_out front
+family_wrote n f l ys port e h g b =
+    let k : port ≡ bytes_of 2 f.2 = rw div-one b in
+    let z : n + 2 - n ≡ 2 = omega arith in
+    let m : length (f.1 ++ bytes_of 2 f.2) ≡ n + 2 = rw (length-append f.1 (bytes_of 2 f.2)) (omega arith) in
+    record {
+      count = sym m;
+      few = omega arith;
+      bytes = rw (m, g, k, take_at f.1 (drop n l) n e, drop_at f.1 (drop n l) n e, z, drop-drop 2 n l) (sym (append_assoc f.1 (bytes_of 2 f.2) (drop (n + 2) l)));
+    }
 
 module _ (c : ConnectionId) (o : Outcome ℕ) (out m : List ℕ) (f : formed_cid c ≡ true) (h : 1 + c.len ≤ length out) (e : (o, m) ≡ write_cid c out) where
   long : length (cid_wire c) ≤ 1 + c.len
@@ -61,11 +61,13 @@ module _ (c : ConnectionId) (o : Outcome ℕ) (out m : List ℕ) (f : formed_cid
       let k : n ≡ length (cid_wire c) = cc in
       record { count = k; few = omega (arith, long); bytes = ap (λ (p : Outcome ℕ × List ℕ). p.1) accept }
 
-  pub cid_never : {P : Type 0} (r : ℕ) → o ≡ refused r → P
-  cid_never r g =
-      let a : o ≡ accepted (length (cid_wire c)) = ap (λ (p : Outcome ℕ × List ℕ). p.0) accept in
-      let z : ◌≡◌ {A = ℕ} 0 1 = cc in
-      absurd (omega arith)
+-- so that it is not refused
+pub cid_fits : (c : ConnectionId) (r : Answer ℕ Refusal) (out m : List ℕ) → formed_cid c ≡ true → 1 + c.len ≤ length out → (outcome_of r, m) ≡ write_cid c out → IsOk r
+cid_fits c (Ok n) out m f h e = refl
+cid_fits c (Err r) out m f h e =
+    let a : ◌≡◌ {A = Outcome ℕ} (refused (number_of r)) (accepted (length (cid_wire c))) = ap (λ (p : Outcome ℕ × List ℕ). p.0) (accept c (refused (number_of r)) out m f h e) in
+    let z : ◌≡◌ {A = ℕ} 0 1 = cc in
+    absurd (omega arith)
 
 pub token_behind : (n k len : ℕ) (a t out m ys : List ℕ) → 17 + len ≤ length out → length t ≡ 16 → Wrote (1 + len) a out n m → (k, ys) ≡ put t (lent n m)
     → Wrote (17 + len) (a ++ t) out (n + k) (back n m ys)

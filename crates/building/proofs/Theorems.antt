@@ -1,12 +1,12 @@
 -- What holds of a record that is built. Assumes nothing.
 --     built_sound      it is well formed, has the order handed in, a permutation, and a reserved identifier
-use Prim.Native.Nat.{ℕ, zero, suc, ◌-◌, ◌%◌, ◌^◌, ◌<◌, ◌≤◌, min}
+use Prim.Native.Nat.{ℕ, ◌-◌, ◌%◌, ◌^◌, ◌<◌, ◌≤◌, min}
 use mathlib.Core.Path.{◌≡◌, refl}
-use mathlib.Core.List.{List, [], ◌∷◌, ◌++◌}
-use mathlib.Core.Bool.{Bool, true, false, ◌&&◌}
+use mathlib.Core.List.{List, ◌++◌}
+use mathlib.Core.Bool.{Bool, true, false}
 use native.Mathlib.Omega.{arith}
 use native.Mathlib.Nat.{min-le_right}
-use lib.ListN.{length, get_or, replicate, length-append, length-replicate}
+use lib.ListN.{length, replicate, length-append, length-replicate}
 use lib.Seq.{drop-append_seam}
 use lib.Dec.{ltb, eqb}
 use borrow.Author.Tests.{lt-ltb, le-leb, eq-eqb}
@@ -15,11 +15,11 @@ use Rattle.refusal.proofs.Laws.{all_at, pick_cases}
 use Rattle.varint.specs.Number.{bound}
 use Rattle.connection_id.specs.declared.ConnectionId.{ConnectionId}
 use Rattle.connection_id.specs.ConnectionId.{formed_cid}
-use Rattle.words.proofs.Laws.{zeros_replicate}
+use Rattle.words.proofs.Laws.{every_at, zeros_replicate}
 use Rattle.record.specs.declared.TransportParameters.{TransportParameters}
 use Rattle.record.specs.Optional.{OptionalNumber}
 use Rattle.std.specs.Prelude.{None, Some}
-use Rattle.record.specs.declared.OptionalConnectionId.{OptionalConnectionId}
+use Rattle.record.specs.Optional.{OptionalConnectionId}
 use Rattle.catalogue.specs.Catalogue.{defaults}
 use Rattle.record.specs.Values.{no_values}
 use Rattle.words.specs.Words.{every}
@@ -31,16 +31,6 @@ use Rattle.building.specs.Building.{sent_settings, settings_fit, id_limit, cut_s
 use Rattle.building.proofs.Answers.{draw_facts, order_length}
 
 -- NUMBERS below 2 ^ 62
-below_at : (l : List ℕ) → every (λ x. ltb x bound) l ≡ true → (i : ℕ) → ltb (get_or l i 0) bound ≡ true
-below_at [] h i = refl
-below_at (x ∷ l) h i = go (ltb x bound) refl h i (below_at l)
-  where
-    go : (t : Bool) → ltb x bound ≡ t → (t && every (λ x. ltb x bound) l) ≡ true → (i : ℕ)
-        → (every (λ x. ltb x bound) l ≡ true → (i : ℕ) → ltb (get_or l i 0) bound ≡ true) → ltb (get_or (x ∷ l) i 0) bound ≡ true
-    go true e h zero ih = e
-    go true e h (suc i) ih = ih h i
-    go false e h i ih = let z : ◌≡◌ {A = ℕ} 0 1 = cc in absurd (omega arith)
-
 limit_below : (n : ℕ) → ltb (id_limit n) bound ≡ true
 unfolding id_limit
 limit_below n = pick_cases (λ x. ltb x bound ≡ true) (eqb n 0) 2 5 (λ e. refl) (λ e. refl)
@@ -48,13 +38,13 @@ limit_below n = pick_cases (λ x. ltb x bound ≡ true) (eqb n 0) 2 5 (λ e. ref
 numbers_below : (s : Settings) → settings_fit s ≡ true → every (λ x. ltb x bound) (numbers_from s (id_limit s.cid_len)) ≡ true
 unfolding settings_fit sent_settings numbers_from defaults
 numbers_below s h =
-    let a = below_at (sent_settings s) h in
-    let bidi : ltb s.max_concurrent_bidi_streams bound ≡ true = a 0 in
-    let uni : ltb s.max_concurrent_uni_streams bound ≡ true = a 1 in
-    let window : ltb s.receive_window bound ≡ true = a 2 in
-    let stream : ltb s.stream_receive_window bound ≡ true = a 3 in
-    let idle : ltb (least s.max_idle_timeout) bound ≡ true = a 4 in
-    let size : ltb s.max_udp_payload_size bound ≡ true = a 5 in
+    let a = every_at (λ x. ltb x bound) (sent_settings s) h in
+    let bidi : ltb s.max_concurrent_bidi_streams bound ≡ true = a 0 (omega arith) in
+    let uni : ltb s.max_concurrent_uni_streams bound ≡ true = a 1 (omega arith) in
+    let window : ltb s.receive_window bound ≡ true = a 2 (omega arith) in
+    let stream : ltb s.stream_receive_window bound ≡ true = a 3 (omega arith) in
+    let idle : ltb (least s.max_idle_timeout) bound ≡ true = a 4 (omega arith) in
+    let size : ltb s.max_udp_payload_size bound ≡ true = a 5 (omega arith) in
     rw (idle, size, window, stream, bidi, uni, limit_below s.cid_len)
 
 size_formed : (o : OptionalNumber) → formed_optional (cut_size o) ≡ true
@@ -68,7 +58,7 @@ delay_formed = refl
 
 -- THE CONNECTION ID, present
 given : ConnectionId → OptionalConnectionId
-given cid = record { present = true; cid = cid }
+given cid = record { present = true; value = cid }
 
 cid_formed : (cid : ConnectionId) → formed_cid cid ≡ true → formed_optional_cid (given cid) ≡ true
 unfolding formed_optional_cid given all
@@ -126,10 +116,10 @@ passed s cid draw payload order r h = go (settings_fit s) (formed_cid cid) (draw
         → pick {A = Outcome TransportParameters} a (pick b (pick c (pick d (accepted (record_from s cid (reserved_from draw payload) (order_from order))) (refused 6)) (refused 9)) (refused 7)) (refused 4) ≡ accepted r
         → Passed s cid draw payload order r
     go true true true true e f g i h = record { fit = e; formed = f; drawn = g; ordered = i; is = cc }
-    go true true true false e f g i h = let z : ◌≡◌ {A = ℕ} 0 1 = cc in absurd (omega arith)
-    go true true false d e f g i h = let z : ◌≡◌ {A = ℕ} 0 1 = cc in absurd (omega arith)
-    go true false c d e f g i h = let z : ◌≡◌ {A = ℕ} 0 1 = cc in absurd (omega arith)
-    go false b c d e f g i h = let z : ◌≡◌ {A = ℕ} 0 1 = cc in absurd (omega arith)
+    go true true true false e f g i h = absurd (cc)
+    go true true false d e f g i h = absurd (cc)
+    go true false c d e f g i h = absurd (cc)
+    go false b c d e f g i h = absurd (cc)
 
 record_formed : (s : Settings) (cid : ConnectionId) (draw : ℕ) (payload order : List ℕ) (r : TransportParameters) → Passed s cid draw payload order r
     → well_formed (record_from s cid (reserved_from draw payload) (order_from order)) ≡ true

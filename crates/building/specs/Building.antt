@@ -83,7 +83,7 @@ record_from s cid reserved order =
       numbers = numbers_from s (id_limit s.cid_len);
       disable_active_migration = is_server s.side && not s.migration;
       max_datagram_frame_size = cut_size s.datagram_receive_buffer_size;
-      initial_src_cid = record { present = true; cid = cid };
+      initial_src_cid = record { present = true; value = cid };
       grease_quic_bit = s.grease_quic_bit;
       min_ack_delay = Some 1000;
       original_dst_cid = default_record.original_dst_cid;

@@ -15,16 +15,14 @@ use catalogue::{
 };
 use connection_id::ConnectionId;
 use record::{
-    OptionalConnectionId, OptionalResetToken, PreferredAddress, ReservedTransportParameter,
-    TransportParameters, WriteOrder,
+    Optional, PreferredAddress, ReservedTransportParameter, TransportParameters, WriteOrder,
 };
 use refusal::Refusal;
 use rules::Side;
 use varint::VarInt;
-use words::{and, minimum};
 
 // What `new` takes from the configurations of the transport, the endpoint and the server, and from the generator of connection IDs.
-#[derive(Clone, Copy)]
+#[derive(Clone, Copy, Debug, PartialEq, Eq)]
 pub struct Settings {
     pub max_concurrent_bidi_streams: u64,
     pub max_concurrent_uni_streams: u64,
@@ -54,22 +52,18 @@ const TIMER_GRANULARITY: u64 = 1000;
 const DRAWS: u64 = (1 << 62) - 27;
 
 // Whether the settings that are sent as they are can be sent.
-fn settings_fit(s: Settings) -> bool
-    ensures { result ≡ settings_fit s }
+fn settings_fit(s: &Settings) -> bool
+    ensures { result ≡ settings_fit s.now }
 {
-    let idle = s.max_idle_timeout;
-    let rest = and(
-        idle.unwrap_or(0) <= VarInt::MAX.0,
-        s.max_udp_payload_size <= VarInt::MAX.0,
-    );
-    let windows = and(
-        s.receive_window <= VarInt::MAX.0,
-        and(s.stream_receive_window <= VarInt::MAX.0, rest),
-    );
-    and(
-        s.max_concurrent_bidi_streams <= VarInt::MAX.0,
-        and(s.max_concurrent_uni_streams <= VarInt::MAX.0, windows),
-    )
+    let sent = [
+        s.max_concurrent_bidi_streams,
+        s.max_concurrent_uni_streams,
+        s.receive_window,
+        s.stream_receive_window,
+        s.max_idle_timeout.unwrap_or(0),
+        s.max_udp_payload_size,
+    ];
+    sent.iter().all(|x| *x <= VarInt::MAX.0)
 }
 
 // The active_connection_id_limit, by whether the IDs that are generated are empty.
@@ -84,36 +78,30 @@ fn cid_limit(empty: bool) -> u64
 }
 
 // A datagram size, cut to what is sent at most.
+#[tactic(auto, unfolding(crate::specs::Building::cut_size))]
 fn cut_size(o: Option<u64>) -> Option<u64>
     ensures { result ≡ cut_size o }
 {
-    match o {
-        None => None,
-        Some(x) => Some(minimum(x, MAX_DATAGRAM_SIZE)),
-    }
+    o.map(|x| x.min(MAX_DATAGRAM_SIZE))
 }
 
 // Only a server that forbids migration disables it.
 fn migration_disabled(side: Side, migration: bool) -> bool
     ensures { result ≡ (is_server side && not migration) }
 {
-    match side {
-        Side::Client => false,
-        Side::Server => !migration,
-    }
+    (side == Side::Server) & !migration
 }
 
 // Whether the draw and the payload are in range.
+#[tactic(auto, unfolding(crate::specs::Building::draw_fits))]
 fn draw_fits(draw: u64, payload: &[u8]) -> bool
     ensures { result ≡ draw_fits draw payload.now }
 {
-    and(
-        draw < DRAWS,
-        payload.len() < ReservedTransportParameter::MAX_PAYLOAD_LEN,
-    )
+    (draw < DRAWS) & (payload.len() < ReservedTransportParameter::MAX_PAYLOAD_LEN)
 }
 
 // The reserved identifier of a draw: `generate_reserved_id`.
+#[tactic(auto, unfolding(crate::specs::Building::reserved_id))]
 fn reserved_id(draw: u64) -> u64
     requires { draw < bound - 27 }
     ensures { result ≡ reserved_id draw }
@@ -122,16 +110,13 @@ fn reserved_id(draw: u64) -> u64
 }
 
 // The reserved parameter of a draw and a payload.
+#[tactic(auto, unfolding(crate::specs::Building::reserved_from))]
 fn reserved_of(draw: u64, payload: &[u8]) -> ReservedTransportParameter
     requires { (draw < bound - 27) × (length payload.now ≤ 15) }
     ensures { result ≡ reserved_from draw payload.now }
 {
-    let mut bytes = [0u8; 16];
-    let mut i: usize = 0;
-    while i < payload.len() {
-        bytes[i] = payload[i];
-        i += 1;
-    }
+    let mut bytes = [0u8; ReservedTransportParameter::MAX_PAYLOAD_LEN];
+    bytes[..payload.len()].copy_from_slice(payload);
     ReservedTransportParameter {
         present: true,
         id: reserved_id(draw),
@@ -140,16 +125,13 @@ fn reserved_of(draw: u64, payload: &[u8]) -> ReservedTransportParameter
     }
 }
 
+#[tactic(auto, unfolding(crate::specs::Building::order_from))]
 fn order_of(order: &[u8]) -> WriteOrder
     requires { length order.now ≡ places }
     ensures { result ≡ order_from order.now }
 {
     let mut places = [0u8; PLACES];
-    let mut i: usize = 0;
-    while i < PLACES {
-        places[i] = order[i];
-        i += 1;
-    }
+    places.copy_from_slice(order);
     WriteOrder {
         present: true,
         places,
@@ -157,13 +139,13 @@ fn order_of(order: &[u8]) -> WriteOrder
 }
 
 // The numbers of places 0 to 10, with the active_connection_id_limit.
-fn numbers_of(s: Settings, limit: u64) -> [u64; NUMBERS]
-    ensures { result ≡ numbers_from s limit }
+#[tactic(auto, unfolding(crate::specs::Building::numbers_from, catalogue::specs::Catalogue::defaults))]
+fn numbers_of(s: &Settings, limit: u64) -> [u64; NUMBERS]
+    ensures { result ≡ numbers_from s.now limit }
 {
-    let idle = s.max_idle_timeout;
     let window = s.stream_receive_window;
     [
-        idle.unwrap_or(0),
+        s.max_idle_timeout.unwrap_or(0),
         s.max_udp_payload_size,
         s.receive_window,
         window,
@@ -178,34 +160,37 @@ fn numbers_of(s: Settings, limit: u64) -> [u64; NUMBERS]
 }
 
 // The record of settings that fit.
+#[tactic(auto, using(record::proofs::Defaults::cid_absent, record::proofs::Defaults::token_absent, record::proofs::Defaults::address_absent), unfolding(crate::specs::Building::record_from, crate::specs::Building::id_limit, record::specs::Values::record_of, record::specs::Values::no_values))]
 fn record_of(
-    s: Settings,
+    s: &Settings,
     cid: ConnectionId,
     reserved: ReservedTransportParameter,
     order: WriteOrder,
 ) -> TransportParameters
-    ensures { result ≡ record_from s cid reserved order }
+    ensures { result ≡ record_from s.now cid reserved order }
 {
-    let size = s.datagram_receive_buffer_size;
-    let side = s.side;
     let limit = cid_limit(s.cid_len == 0);
     TransportParameters {
         numbers: numbers_of(s, limit),
-        disable_active_migration: migration_disabled(side, s.migration),
-        max_datagram_frame_size: cut_size(size),
-        initial_src_cid: OptionalConnectionId { present: true, cid },
+        disable_active_migration: migration_disabled(s.side, s.migration),
+        max_datagram_frame_size: cut_size(s.datagram_receive_buffer_size),
+        initial_src_cid: Optional {
+            present: true,
+            value: cid,
+        },
         grease_quic_bit: s.grease_quic_bit,
         min_ack_delay: Some(TIMER_GRANULARITY),
-        original_dst_cid: OptionalConnectionId::absent(),
-        retry_src_cid: OptionalConnectionId::absent(),
-        stateless_reset_token: OptionalResetToken::absent(),
-        preferred_address: PreferredAddress::absent(),
+        original_dst_cid: Optional::default(),
+        retry_src_cid: Optional::default(),
+        stateless_reset_token: Optional::default(),
+        preferred_address: PreferredAddress::default(),
         grease_transport_parameter: reserved,
         write_order: order,
     }
 }
 
 // The record of these settings and this connection ID, with the reserved parameter and the order drawn.
+#[tactic(auto, using(crate::proofs::Answers::draw_facts, crate::proofs::Answers::order_length), unfolding(crate::specs::Building::build))]
 pub fn new(
     settings: Settings,
     initial_src_cid: ConnectionId,
@@ -215,7 +200,7 @@ pub fn new(
 ) -> Result<TransportParameters, Refusal>
     ensures { outcome_of result ≡ build settings initial_src_cid draw payload.now order.now }
 {
-    if !settings_fit(settings) {
+    if !settings_fit(&settings) {
         return Err(Refusal::VarIntBoundsExceeded);
     }
     if !initial_src_cid.is_well_formed() {
@@ -229,5 +214,5 @@ pub fn new(
     }
     let reserved = reserved_of(draw, payload);
     let places = order_of(order);
-    Ok(record_of(settings, initial_src_cid, reserved, places))
+    Ok(record_of(&settings, initial_src_cid, reserved, places))
 }

@@ -3,13 +3,13 @@
 
 ghost use Rattle.std.specs.Prelude.{◌≡◌};
 ghost use Rattle.refusal.specs.Answer.{outcome_of};
-ghost use Rattle.by_image.specs.ByImage.{image_read, image_check, image_write, image_length, resume_from, image_resume};
+ghost use Rattle.by_image.specs.ByImage.{image_read, image_check, image_write, image_length, image_resume};
 
-use record::TransportParameters;
 use refusal::Refusal;
 use rules::Side;
 
 // Reads an extension, and stores the record's image.
+#[tactic(auto, unfolding(crate::specs::ByImage::image_read, crate::specs::ByImage::record_store))]
 pub fn read(side: Side, src: &[u8], record: &mut [u8]) -> Result<usize, Refusal>
     ensures { (outcome_of result, «record».new) ≡ image_read side src.now «record».old }
 {
@@ -17,6 +17,7 @@ pub fn read(side: Side, src: &[u8], record: &mut [u8]) -> Result<usize, Refusal>
     image::image_to(r, record)
 }
 
+#[tactic(auto, unfolding(crate::specs::ByImage::image_check))]
 pub fn check(record: &[u8], side: Side) -> Result<(), Refusal>
     ensures { outcome_of result ≡ image_check «record».now side }
 {
@@ -24,6 +25,7 @@ pub fn check(record: &[u8], side: Side) -> Result<(), Refusal>
     rules::check(r, side)
 }
 
+#[tactic(auto, unfolding(crate::specs::ByImage::image_write))]
 pub fn write(record: &[u8], out: &mut [u8]) -> Result<usize, Refusal>
     ensures { (outcome_of result, out.new) ≡ image_write «record».now out.old }
 {
@@ -31,6 +33,7 @@ pub fn write(record: &[u8], out: &mut [u8]) -> Result<usize, Refusal>
     writer::write(r, out)
 }
 
+#[tactic(auto, unfolding(crate::specs::ByImage::image_length))]
 pub fn length(record: &[u8]) -> Result<usize, Refusal>
     ensures { outcome_of result ≡ image_length «record».now }
 {
@@ -38,16 +41,11 @@ pub fn length(record: &[u8]) -> Result<usize, Refusal>
     length::length(r)
 }
 
+#[tactic(auto, unfolding(crate::specs::ByImage::image_resume, crate::specs::ByImage::resume_from))]
 pub fn validate_resumption_from(record: &[u8], cached: &[u8]) -> Result<(), Refusal>
     ensures { outcome_of result ≡ image_resume «record».now cached.now }
 {
     let new = imaged::record_from(record)?;
-    resume_from(new, cached)
-}
-
-fn resume_from(new: TransportParameters, cached: &[u8]) -> Result<(), Refusal>
-    ensures { outcome_of result ≡ resume_from new cached.now }
-{
     let old = imaged::record_from(cached)?;
     resumption::validate_resumption_from(new, old)
 }

@@ -5,7 +5,6 @@ use Prim.Native.Nat.{ℕ}
 use mathlib.Core.Path.{◌≡◌, ap, sym, ◌∙◌}
 use mathlib.Core.List.{List}
 use mathlib.Core.Bool.{Bool, true, false}
-use native.Mathlib.Omega.{arith}
 use lib.ListN.{length}
 use lib.Dec.{leb}
 use Rattle.refusal.specs.Outcome.{Outcome, accepted, refused, pick, front, store}
@@ -33,5 +32,5 @@ module _ (s : Settings) (cid : ConnectionId) (draw : ℕ) (payload order : List 
   built_accepted out n e = go (leb (length (extension r order)) (length out)) (sym (ap (λ (w : Outcome ℕ × List ℕ). w.0) (built_written out)) ∙ e)
     where
       go : (t : Bool) → (pick {A = Outcome ℕ × List ℕ} t (accepted (length (extension r order)), front (extension r order) out) (refused 5, out)).0 ≡ refused n → n ≡ 5
-      go true k = let z : ◌≡◌ {A = ℕ} 0 1 = cc in absurd (omega arith)
+      go true k = cc
       go false k = cc

@@ -4,7 +4,6 @@
 --     place_within                an identifier's place is one of the catalogue, or the number of them
 --     id_lt                       a number holds each identifier
 --     reserved_unknown            a reserved identifier has no place
---     unknown                     identifiers outside the table
 --     number_kind, default_lt     places 0 to 10 hold numbers, and their defaults are numbers
 use Prim.Native.Nat.{ℕ, zero, suc, ◌^◌, ◌%◌, ◌≤◌, ◌<◌}
 use mathlib.Core.Path.{◌≡◌, refl, ap, sym, ◌∙◌}
@@ -100,21 +99,3 @@ number_kind p h = get_or-append (replicate 11 number) other_kinds reserved p h �
 pub default_lt : (p : ℕ) → p < 11 → get_or defaults p 0 < 2 ^ 62
 unfolding defaults
 default_lt p h = ltb-true _ _ (below_at 11 (λ p. ltb (get_or defaults p 0) (2 ^ 62)) refl p h)
-
--- an identifier that is none of those in the table
-not_in : (x : ℕ) (ys : List ℕ) → every (λ y. not (eqb x y)) ys ≡ true → index_of x ys ≡ length ys
-not_in x [] h = refl
-not_in x (y ∷ ys) h = go (eqb x y) refl h (not_in x ys)
-  where
-    go : (b : Bool) → eqb x y ≡ b → (not b && every (λ y. not (eqb x y)) ys) ≡ true → (every (λ y. not (eqb x y)) ys ≡ true → index_of x ys ≡ length ys)
-        → pick (eqb x y) 0 (suc (index_of x ys)) ≡ suc (length ys)
-    go true e h ih = let z : ◌≡◌ {A = ℕ} 0 1 = cc in absurd (omega arith)
-    go false e h ih = rw e (ap suc (ih h))
-
-pub unknown : (x : ℕ) → (ltb x bound ≡ true → every (λ y. not (eqb x y)) ids ≡ true) → places ≡ place_of x
-unfolding place_of ids
-unknown x h = go (ltb x bound) refl
-  where
-    go : (t : Bool) → ltb x bound ≡ t → places ≡ pick t (index_of x ids) places
-    go true e = sym (not_in x ids (h e))
-    go false e = refl

@@ -13,7 +13,7 @@ pub const NUMBERS: usize = 11;
 // No extension of a record is longer, in bytes.
 pub const MAX_EXTENSION: usize = 314;
 
-// The places.
+// The places: numbers and no enum, since entries of orders, bits of marks and positions in arrays are these.
 pub const MAX_IDLE_TIMEOUT: usize = 0;
 
 pub const MAX_UDP_PAYLOAD_SIZE: usize = 1;
@@ -56,7 +56,7 @@ pub const GREASE_QUIC_BIT: usize = 19;
 
 pub const MIN_ACK_DELAY: usize = 20;
 
-// The places of the kinds that more than one has, a bit for each.
+// The places of the kinds that more than one has, a bit for each: one look at a bit tells several kinds from the others.
 pub const NUMBER_PLACES: u32 = 0x1047ff;
 
 pub const FLAG_PLACES: u32 = 0x82000;
@@ -66,31 +66,30 @@ pub const CID_PLACES: u32 = 0x70000;
 // Those of numbers, flags, IDs and the token.
 pub const SIMPLE_PLACES: u32 = 0x1f77ff;
 
-// Their names, each in a column of the same width.
-pub const NAME_WIDTH: usize = 36;
-
-pub const NAMES: [u8; NAME_WIDTH * PLACES] = *b"\
-max_idle_timeout                    \
-max_udp_payload_size                \
-initial_max_data                    \
-initial_max_stream_data_bidi_local  \
-initial_max_stream_data_bidi_remote \
-initial_max_stream_data_uni         \
-initial_max_streams_bidi            \
-initial_max_streams_uni             \
-ack_delay_exponent                  \
-max_ack_delay                       \
-active_connection_id_limit          \
-reserved                            \
-stateless_reset_token               \
-disable_active_migration            \
-max_datagram_frame_size             \
-preferred_address                   \
-original_dst_cid                    \
-initial_src_cid                     \
-retry_src_cid                       \
-grease_quic_bit                     \
-min_ack_delay                       ";
+// Their names.
+pub const NAMES: [&str; PLACES] = [
+    "max_idle_timeout",
+    "max_udp_payload_size",
+    "initial_max_data",
+    "initial_max_stream_data_bidi_local",
+    "initial_max_stream_data_bidi_remote",
+    "initial_max_stream_data_uni",
+    "initial_max_streams_bidi",
+    "initial_max_streams_uni",
+    "ack_delay_exponent",
+    "max_ack_delay",
+    "active_connection_id_limit",
+    "reserved",
+    "stateless_reset_token",
+    "disable_active_migration",
+    "max_datagram_frame_size",
+    "preferred_address",
+    "original_dst_cid",
+    "initial_src_cid",
+    "retry_src_cid",
+    "grease_quic_bit",
+    "min_ack_delay",
+];
 
 // Their identifiers. The reserved parameter has none of its own: no number on the wire is 2^62.
 pub const IDS: [u64; PLACES] = [
@@ -139,20 +138,24 @@ pub const MIN_ACK_DELAY_ID: u64 = IDS[MIN_ACK_DELAY];
 // The defaults of the plain numbers.
 pub const DEFAULTS: [u64; NUMBERS] = [0, 65527, 0, 0, 0, 0, 0, 0, 3, 25, 2];
 
-// The two tables are those of the definitions.
+// The two tables are those of the definitions: for the contracts, nothing calls these.
+#[tactic(auto, unfolding(crate::specs::Catalogue::ids))]
 pub fn identifiers() -> [u64; PLACES]
     ensures { result ≡ ids }
 {
     IDS
 }
 
+#[tactic(auto, unfolding(crate::specs::Catalogue::defaults))]
 pub fn default_numbers() -> [u64; NUMBERS]
     ensures { result ≡ defaults }
 {
     DEFAULTS
 }
 
-// The place of an identifier; `PLACES` if it is unknown. Two matches become tables; one over all identifiers becomes a jump.
+// The place of an identifier; `PLACES` if it is unknown, and no Option: a reader marks the place, which has a bit too, before it asks whether the
+// catalogue has it. Two matches become tables; one over all identifiers becomes a jump.
+#[tactic(auto, unfolding(crate::specs::Catalogue::place_of, crate::specs::Catalogue::ids))]
 pub fn place_of(id: u64) -> usize
     ensures { result ≡ place_of id }
 {

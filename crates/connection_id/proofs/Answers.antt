@@ -1,19 +1,17 @@
 -- What the code answers at each `return`, as the definitions have it. Assumes nothing.
 use Prim.Native.Nat.{ℕ, ◌+◌, ◌-◌, ◌≤◌, ◌<◌}
-use mathlib.Core.Path.{◌≡◌, refl, ap, ap₂, sym, ◌∙◌}
+use mathlib.Core.Path.{◌≡◌, refl, ap, ◌∙◌}
 use mathlib.Core.List.{List, [], ◌∷◌, ◌++◌}
 use mathlib.Core.Bool.{Bool, true, false}
 use native.Mathlib.Omega.{arith}
-use native.Mathlib.Numerals.{one-add}
+use native.Mathlib.Numerals.{add-one}
 use lib.ListN.{length, get_or, take, drop, set}
-use lib.Seq.{paste}
 use borrow.Author.Tests.{le-leb, lt-leb, eq-eqb}
 use Rattle.std.specs.Prelude.{Result as Answer, Ok, Err}
 use Rattle.refusal.specs.Answer.{outcome_of}
 use Rattle.refusal.specs.Outcome.{Outcome, accepted, refused, all, front, store}
 use Rattle.refusal.specs.Number.{number_of}
 use Rattle.refusal.specs.declared.Refusal.{Refusal}
-use Rattle.refusal.specs.declared.Refusal.TheVariants.{Malformed}
 use Rattle.connection_id.specs.declared.ConnectionId.{ConnectionId}
 use Rattle.words.specs.Words.{zeros}
 use Rattle.connection_id.specs.ConnectionId.{cid_of, cid_bytes, formed_cid, make_cid, read_cid, cid_wire, write_cid}
@@ -87,13 +85,16 @@ write_short c out h k =
     let l : length out < length (cid_wire c) = omega arith in
     rw (h, lt-leb _ _ l)
 
-pub write_whole : (c : ConnectionId) (out ys : List ℕ) → formed_cid c ≡ true → c.len + 1 ≤ length out
-    → ys ≡ paste (set out 0 c.len) 1 c.bytes c.len → (accepted (c.len + 1), ys) ≡ write_cid c out
+pub write_whole : (c : ConnectionId) (out id : List ℕ) (n : ℕ) → n ≡ c.len → formed_cid c ≡ true → n + 1 ≤ length out → id ≡ take n c.bytes
+    → (accepted (n + 1), take 1 (set out 0 c.len) ++ (id ++ drop (n + 1 - 1) (drop 1 (set out 0 c.len)))) ≡ write_cid c out
 unfolding write_cid store front
-write_whole c [] ys h k e = absurd (omega arith)
-write_whole c (b ∷ out) ys h k e =
+write_whole c [] id n a h k e = absurd (omega arith)
+write_whole c (b ∷ out) id n a h k e =
     let w = cid_length_lem c (cid_facts c h) in
-    let n : length (cid_wire c) ≡ c.len + 1 = omega arith in
+    let m : length (cid_wire c) ≡ n + 1 = omega arith in
     let l : length (cid_wire c) ≤ length (b ∷ out) = omega arith in
-    let d : drop (1 + c.len) (c.len ∷ out) ≡ drop (length (cid_bytes c)) out = rw (one-add, w) in
-    rw (h, le-leb _ _ l) (ap₂ (λ (m : ℕ) (t : List ℕ). (accepted m, t)) (sym n) (e ∙ ap (λ (t : List ℕ). cid_wire c ++ t) d))
+    let d : n + 1 - 1 ≡ length (cid_bytes c) = omega arith in
+    let f : id ≡ cid_bytes c = e ∙ ap (λ (i : ℕ). take i c.bytes) a in
+    let j : length (cid_bytes c) ≡ n = omega arith in
+    let g : drop (length (cid_bytes c)) out ≡ drop (n + 1) (b ∷ out) = rw (j, add-one n) in
+    rw (h, le-leb _ _ l, m, d, f) (ap (λ (t : List ℕ). (accepted (n + 1), c.len ∷ (cid_bytes c ++ t))) g)

@@ -1,5 +1,6 @@
 -- Laws of connection IDs. Assumes nothing.
 --     cid_facts         what it takes to be well formed
+--     formed_within     and its length, as the code knows it
 --     cid_length_lem    a well-formed ID has as many bytes as it says
 --     cid_of_lem        a well-formed ID is that of its bytes
 --     cid_none          the one of length 0 is the empty ID
@@ -33,6 +34,9 @@ pub record Cid (c : ConnectionId) : Type 0 where
 pub cid_facts : (c : ConnectionId) → formed_cid c ≡ true → Cid c
 unfolding formed_cid
 cid_facts c h = let a = all_at _ h in record { long = eqb-true _ _ (a 0); within = leb-true _ _ (a 1); after = a 2 }
+
+pub formed_within : (c : ConnectionId) → true ≡ formed_cid c → c.len ≤ 20
+formed_within c h = (cid_facts c (sym h)).within
 
 pub cid_length_lem : (c : ConnectionId) → Cid c → length (cid_bytes c) ≡ c.len
 cid_length_lem c k = length-take-le c.len c.bytes (omega (arith, k.long, k.within))

@@ -1,3 +1,2 @@
-pub mod Copy
 pub mod Laws
 pub mod Answers

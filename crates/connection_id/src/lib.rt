@@ -1,16 +1,14 @@
 // Connection IDs, and their form behind a length byte (RFC 9000 section 17.2): `ConnectionId` of quinn's shared.rs.
 #![tactic(auto)]
 
-ghost use Rattle.std.specs.Prelude.{◌≡◌, [], ◌+◌, ◌≤◌, ◌<◌, length, drop};
-ghost use Rattle.std.proofs.Math.Seq.{paste};
-ghost use Rattle.words.specs.Words.{zeros};
+ghost use Rattle.std.specs.Prelude.{◌≡◌, [], ◌≤◌, length};
 ghost use Rattle.connection_id.specs.ConnectionId.{cid_of, formed_cid, same_cid, make_cid, read_cid, write_cid};
 ghost use Rattle.refusal.specs.Answer.{outcome_of};
 
 use refusal::Refusal;
-use words::{and, same20, zero20_from};
+use words::zero_from;
 
-#[derive(Clone, Copy, Debug, PartialEq, Eq)]
+#[derive(Clone, Copy, Debug, Default, PartialEq, Eq)]
 pub struct ConnectionId {
     // how many bytes the ID has
     pub len: u8,
@@ -23,6 +21,7 @@ impl ConnectionId {
     pub const MAX_SIZE: usize = 20;
 
     // The ID of no bytes.
+    #[tactic(auto, unfolding(crate::specs::ConnectionId::cid_of))]
     pub fn empty() -> ConnectionId
         ensures { result ≡ cid_of [] }
     {
@@ -33,6 +32,7 @@ impl ConnectionId {
     }
 
     // The ID of these bytes, of which there are at most 20.
+    #[tactic(auto, using(crate::proofs::Answers::make_long, crate::proofs::Answers::make_whole))]
     pub fn new(bytes: &[u8]) -> Result<ConnectionId, Refusal>
         ensures { outcome_of result ≡ make_cid bytes.now }
     {
@@ -46,21 +46,16 @@ impl ConnectionId {
     pub fn is_well_formed(self) -> bool
         ensures { result ≡ formed_cid self }
     {
-        let n = self.len as usize;
-        if ConnectionId::MAX_SIZE < n {
-            return false;
-        }
-        let bytes = self.bytes;
-        zero20_from(&bytes, n)
+        let n = usize::from(self.len);
+        n <= ConnectionId::MAX_SIZE && zero_from(&self.bytes, n)
     }
 
     // Whether two IDs are the same, well formed or not.
+    #[tactic(auto, unfolding(crate::specs::ConnectionId::same_cid))]
     pub fn equals(self, other: ConnectionId) -> bool
         ensures { result ≡ same_cid self other }
     {
-        let a = self.bytes;
-        let b = other.bytes;
-        and(self.len == other.len, same20(&a, &b))
+        self == other
     }
 
     // The ID behind the length byte at the front of `src`.
@@ -68,10 +63,10 @@ impl ConnectionId {
     pub fn decode_long(src: &[u8]) -> Result<(ConnectionId, usize), Refusal>
         ensures { outcome_of result ≡ read_cid src.now }
     {
-        if src.len() == 0 {
+        if src.is_empty() {
             return Err(Refusal::Malformed);
         }
-        let n = src[0] as usize;
+        let n = usize::from(src[0]);
         if ConnectionId::MAX_SIZE < n {
             return Err(Refusal::Malformed);
         }
@@ -83,20 +78,21 @@ impl ConnectionId {
     }
 
     // Writes the length byte and the ID to the front of `out`.
+    #[tactic(auto, using(crate::proofs::Laws::formed_within))]
     pub fn encode_long(self, out: &mut [u8]) -> Result<usize, Refusal>
         ensures { (outcome_of result, out.new) ≡ write_cid self out.old }
     {
         if !self.is_well_formed() {
             return Err(Refusal::IllFormed);
         }
-        let n = self.len as usize;
+        let n = usize::from(self.len);
         let end = n + 1;
         if out.len() < end {
             return Err(Refusal::BufferTooShort);
         }
-        let bytes = self.bytes;
+        let id = &self.bytes[..n];
         out[0] = self.len;
-        put(n, &bytes, out);
+        out[1..end].copy_from_slice(id);
         Ok(end)
     }
 }
@@ -107,25 +103,9 @@ fn cid_of(v: &[u8]) -> ConnectionId
     ensures { result ≡ cid_of v.now }
 {
     let mut bytes = [0u8; 20];
-    let mut i: usize = 0;
-    while i < v.len() {
-        bytes[i] = v[i];
-        i += 1;
-    }
+    bytes[..v.len()].copy_from_slice(v);
     ConnectionId {
         len: v.len() as u8,
         bytes,
-    }
-}
-
-// Stores the first `n` bytes behind the first byte of `out`.
-fn put(n: usize, bytes: &[u8; 20], out: &mut [u8])
-    requires { (n ≤ 20) × (length bytes.now ≡ 20) × (n < length out.old) }
-    ensures { out.new ≡ paste out.old 1 bytes.now n }
-{
-    let mut i: usize = 0;
-    while i < n {
-        out[i + 1] = bytes[i];
-        i += 1;
     }
 }

@@ -55,12 +55,12 @@ with numbers original grease delay order =
       numbers = numbers;
       disable_active_migration = false;
       max_datagram_frame_size = None;
-      initial_src_cid = record { present = false; cid = cid_of [] };
+      initial_src_cid = record { present = false; value = cid_of [] };
       grease_quic_bit = grease;
       min_ack_delay = delay;
-      original_dst_cid = record { present = original; cid = cid_of [] };
-      retry_src_cid = record { present = false; cid = cid_of [] };
-      stateless_reset_token = record { present = false; token = token_of (replicate 16 0) };
+      original_dst_cid = record { present = original; value = cid_of [] };
+      retry_src_cid = record { present = false; value = cid_of [] };
+      stateless_reset_token = record { present = false; value = token_of (replicate 16 0) };
       preferred_address =
           record {
             present = false;

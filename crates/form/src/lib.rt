@@ -1,221 +1,200 @@
 // The text form of a record: lines of a name and a value. It becomes the image of the record, line by line, or a line is found that is amiss.
 #![tactic(auto)]
 
-ghost use Rattle.std.specs.Prelude.{◌<◌};
+ghost use Rattle.std.specs.Prelude.{◌<◌, IfErr};
 
-use catalogue::{
-    DISABLE_ACTIVE_MIGRATION, GREASE_QUIC_BIT, INITIAL_SRC_CID, NUMBERS, ORIGINAL_DST_CID, PLACES,
-    PREFERRED_ADDRESS, RESERVED, RETRY_SRC_CID, STATELESS_RESET_TOKEN,
-};
+use catalogue::PLACES;
+use image::RECORD_SIZE;
 use marks::{is_marked, with_mark};
 use record::TransportParameters;
-use show::rows::{
-    ADDRESS_CID, ADDRESS_FLAG, ADDRESS_TOKEN, ADDRESS_V4, ADDRESS_V6, BLANK, ORDER, ROWS, flag_at,
-    row_of, value_at,
-};
-use text::out::{Out, note, note_line, note_number};
-use text::{Hex, line_at, parse_hex, position, put_16, put_list, put_number, set, word};
-use words::low;
+use show::rows::{ADDRESS_FLAG, Kind, Row, row_named};
+use std::error::Error;
+use std::fmt;
+use std::fmt::Display;
+use text::{HexError, parse_hex, put_16, put_list, put_number, set, word};
 
-// What may be amiss in a line, by its line of the complaints.
-const FINE: usize = 0;
-
-const NAME: usize = 1;
-
-const AGAIN: usize = 2;
-
-const NUMBER: usize = 3;
-
-const DIGITS: usize = 4;
-
-const TOKEN: usize = 5;
-
-const FLAG: usize = 6;
-
-const ADDRESS: usize = 7;
-
-const PLACE: usize = 8;
-
-const MORE: usize = 9;
-
-// What is amiss, and in which line; the lines count from 1.
-#[derive(Drop)]
-struct Slip {
-    line: usize,
-    what: usize,
+// What may be amiss in a line.
+#[derive(Clone, Copy, Debug, PartialEq, Eq)]
+pub enum Complaint {
+    Name,
+    Again,
+    Number,
+    Digits,
+    Token,
+    Flag,
+    Address,
+    Order,
+    More,
 }
 
-fn unless(fine: bool, what: usize) -> usize {
-    if fine { FINE } else { what }
+impl Display for Complaint {
+    fn fmt<W: fmt::Write>(&self, f: &mut fmt::Formatter<W>) -> fmt::Result {
+        match self {
+            Complaint::Name => write!(f, "no such name"),
+            Complaint::Again => write!(f, "a second line of this name"),
+            Complaint::Number => write!(f, "not a decimal number"),
+            Complaint::Digits => write!(f, "not hexadecimal"),
+            Complaint::Token => write!(f, "not 16 bytes in hexadecimal"),
+            Complaint::Flag => write!(f, "a flag has no value, or set"),
+            Complaint::Address => write!(f, "not an address and a port"),
+            Complaint::Order => write!(f, "not 21 places"),
+            Complaint::More => write!(f, "more than a value"),
+        }
+    }
+}
+
+// What is amiss, and in which line; the lines count from 1.
+#[derive(Clone, Copy, Debug, PartialEq, Eq)]
+pub struct Slip {
+    pub line: usize,
+    pub what: Complaint,
+}
+
+impl Display for Slip {
+    fn fmt<W: fmt::Write>(&self, f: &mut fmt::Formatter<W>) -> fmt::Result {
+        let line = self.line;
+        let what = self.what;
+        write!(f, "line {line}: {what}")
+    }
+}
+
+impl Error for Slip {}
+
+fn unless(fine: bool, what: Complaint) -> Result<(), Complaint> {
+    if fine { Ok(()) } else { Err(what) }
 }
 
 // Bytes behind their length. Too many get a length that is refused later.
-fn put_counted(digits: &[u8], out: &mut [u8], at: usize, room: u8) -> usize
+fn put_counted(digits: &[u8], out: &mut [u8], at: usize, room: usize) -> Result<(), Complaint>
     requires { at < 70000 }
 {
-    if digits == b"(empty)".as_slice() {
-        return FINE;
+    if let b"(empty)" = digits {
+        return Ok(());
     }
-    match parse_hex(digits, out, at + 1, room as usize) {
-        Hex::Bytes(n) => {
-            set(out, at, 0, low(n as u64));
-            FINE
-        }
-        Hex::Long => {
-            set(out, at, 0, 255);
-            FINE
-        }
-        _ => DIGITS,
-    }
+    let len = match parse_hex(digits, out, at + 1, room) {
+        Ok(n) => (n & 0xff) as u8,
+        Err(HexError::Long) => 255,
+        Err(_) => return Err(Complaint::Digits),
+    };
+    set(out, at, 0, len);
+    Ok(())
 }
 
 // An identifier, and a payload behind its length.
-fn put_reserved(line: &[u8], out: &mut [u8], at: usize) -> usize
+fn put_reserved(line: &[u8], out: &mut [u8], at: usize) -> Result<(), Complaint>
     requires { at < 65536 }
 {
-    if !put_number(word(line, 1, b' '), u64::MAX, out, at, 8) {
-        return NUMBER;
-    }
+    let is_number = put_number(word(line, 1, b' '), u64::MAX, out, at, 8);
+    unless(is_number, Complaint::Number)?;
     put_counted(word(line, 2, b' '), out, at + 8, 16)
 }
 
-// An address of 4 or 16 bytes; tells whether it is one.
-fn put_ip(ip: &[u8], n: usize, out: &mut [u8], at: usize) -> bool {
-    if n == 4 {
-        return put_list(ip, 0, 4, b'.', out, at);
-    }
-    put_16(ip, out, at)
-}
-
-// An address, and a port with or without the word before it.
-fn put_family(line: &[u8], n: usize, out: &mut [u8], at: usize) -> bool
-    requires { (at < 65536) × (n < 65536) }
-{
-    if !put_ip(word(line, 1, b' '), n, out, at) {
-        return false;
-    }
-    let k = 3 - position(b"port", 1, word(line, 2, b' '));
-    put_number(word(line, k, b' '), 65535, out, at + n, 2)
+// A port, with or without the word before it.
+fn put_port(line: &[u8], out: &mut [u8], at: usize) -> Result<(), Complaint> {
+    let port = match word(line, 2, b' ') {
+        b"port" => word(line, 3, b' '),
+        port => port,
+    };
+    unless(put_number(port, 65535, out, at, 2), Complaint::Address)
 }
 
 fn is_flag(value: &[u8]) -> bool {
-    if value.len() == 0 {
-        return true;
-    }
-    position(b"set present", 2, value) < 2
+    matches!(value, b"" | b"set" | b"present")
 }
 
 // How many words a line may have: what stands behind a number is ignored.
-fn most_words(row: usize) -> usize {
-    match row {
-        STATELESS_RESET_TOKEN | ADDRESS_TOKEN => 2,
-        ORIGINAL_DST_CID | INITIAL_SRC_CID | RETRY_SRC_CID | ADDRESS_CID => 2,
-        RESERVED => 3,
-        ORDER => PLACES + 1,
+fn most_words(row: Row) -> usize {
+    match row.0 {
+        Kind::Token | Kind::AddressToken | Kind::ConnectionId | Kind::AddressId => 2,
+        Kind::Reserved => 3,
+        Kind::Order => PLACES + 1,
         _ => 4,
     }
 }
 
 // Stores the value of a line that gives one.
-fn put_value(row: usize, line: &[u8], out: &mut [u8]) -> usize {
-    let at = value_at(row);
+fn put_value(row: Row, line: &[u8], out: &mut [u8]) -> Result<(), Complaint> {
+    let at = row.value_at();
     let value = word(line, 1, b' ');
-    match row {
-        STATELESS_RESET_TOKEN | ADDRESS_TOKEN => unless(put_16(value, out, at), TOKEN),
-        DISABLE_ACTIVE_MIGRATION | PREFERRED_ADDRESS | GREASE_QUIC_BIT => {
-            unless(is_flag(value), FLAG)
+    match row.0 {
+        Kind::Number(_) | Kind::OptionalNumber(_) => {
+            unless(put_number(value, u64::MAX, out, at, 8), Complaint::Number)
         }
-        ORIGINAL_DST_CID | INITIAL_SRC_CID | RETRY_SRC_CID | ADDRESS_CID => put_counted(
-            value, out, at, 20,
+        Kind::Flag | Kind::Address => unless(is_flag(value), Complaint::Flag),
+        Kind::Token | Kind::AddressToken => unless(put_16(value, out, at), Complaint::Token),
+        Kind::ConnectionId | Kind::AddressId => put_counted(value, out, at, 20),
+        Kind::Reserved => put_reserved(line, out, at),
+        Kind::V4 => {
+            unless(put_list(value, 0, 4, b'.', out, at), Complaint::Address)?;
+            put_port(line, out, at + 4)
+        }
+        Kind::V6 => {
+            unless(put_16(value, out, at), Complaint::Address)?;
+            put_port(line, out, at + 16)
+        }
+        Kind::Order => unless(
+            put_list(line, 1, PLACES + 1, b' ', out, at),
+            Complaint::Order,
         ),
-        RESERVED => put_reserved(line, out, at),
-        ADDRESS_V4 => unless(put_family(line, 4, out, at), ADDRESS),
-        ADDRESS_V6 => unless(put_family(line, 16, out, at), ADDRESS),
-        ORDER => unless(put_list(line, 1, PLACES + 1, b' ', out, at), PLACE),
-        _ => unless(put_number(value, u64::MAX, out, at, 8), NUMBER),
     }
 }
 
 // Stores that a row is given; with a part of an address, the address is.
-fn put_flag(row: usize, out: &mut [u8]) {
-    set(out, flag_at(row), 0, 1);
-    if row < PLACES || row == ORDER {
-        return;
+fn put_flag(row: Row, out: &mut [u8]) {
+    if let Some(at) = row.flag_at() {
+        set(out, at, 0, 1);
     }
-    set(out, ADDRESS_FLAG, 0, 1);
+    if let Kind::V4 | Kind::V6 = row.0 {
+        set(out, ADDRESS_FLAG, 0, 1);
+    }
 }
 
-// Stores what a line says, if its row was not met before. Only what can be absent is let off its value.
-fn put(met: u32, row: usize, line: &[u8], out: &mut [u8]) -> usize {
-    if is_marked(met, row) {
-        return AGAIN;
+// Stores what a row's line says. Only what can be absent is let off its value.
+fn put_row(row: Row, line: &[u8], out: &mut [u8]) -> Result<(), Complaint> {
+    if row.flag_at().is_some() {
+        if matches!(word(line, 1, b' '), b"absent" | b"not") {
+            return Ok(());
+        }
+        let more = word(line, most_words(row), b' ');
+        unless(more.is_empty(), Complaint::More)?;
+        put_flag(row, out);
     }
-    if ROWS <= row {
-        return unless(row == BLANK, NAME);
-    }
-    if row < NUMBERS {
-        return put_value(row, line, out);
-    }
-    let value = word(line, 1, b' ');
-    if position(b"absent not", 2, value) < 2 {
-        return FINE;
-    }
-    let more = word(line, most_words(row), b' ');
-    if 0 < more.len() {
-        return MORE;
-    }
-    put_flag(row, out);
     put_value(row, line, out)
 }
 
+// Stores what a line says, if its row was not met before; gives the rows met so far.
+fn put_line(met: u32, line: &[u8], out: &mut [u8]) -> Result<u32, Complaint> {
+    let name = word(line, 0, b' ');
+    if let [] | [b'#', ..] = name {
+        return Ok(met);
+    }
+    let (i, row) = row_named(name).ok_or(Complaint::Name)?;
+    unless(!is_marked(met, i), Complaint::Again)?;
+    put_row(row, line, out)?;
+    Ok(with_mark(met, i))
+}
+
 // Stores what the lines say into an image, up to the first slip.
-fn put_lines(text: &[u8], out: &mut [u8]) -> Slip {
+fn put_lines(text: &[u8], out: &mut [u8]) -> Result<(), Slip>
+    ensures { IfErr result (λ slip. 0 < slip.line) }
+{
     let mut met: u32 = 0;
-    let mut line: usize = 0;
-    let mut at: usize = 0;
-    while at < text.len() {
-        let l = line_at(text, at);
-        let row = row_of(l);
-        let what = put(met, row, l, out);
-        line += 1;
-        if what != FINE {
-            return Slip { line, what };
-        }
-        if text.len() - at <= l.len() {
-            return Slip { line, what };
-        }
-        met = with_mark(met, row);
-        at += l.len() + 1;
+    for (i, line) in text.split(|b| *b == b'\n').enumerate() {
+        let line_number = i.saturating_add(1);
+        met = put_line(met, line, out).map_err(|what| Slip {
+            line: line_number,
+            what,
+        })?;
     }
-    Slip { line, what: FINE }
+    Ok(())
 }
 
-// The image of the record that says nothing.
-fn clear(out: &mut [u8]) {
-    let _ = image::image_to(TransportParameters::default(), out);
-}
-
-// The image of the record that a text says; tells whether each line is understood, and complains if not.
-pub fn fill(to: &mut Out, text: &[u8], out: &mut [u8]) -> bool {
-    clear(out);
-    let slip = put_lines(text, out);
-    let what = slip.what;
-    if what == FINE {
-        return true;
-    }
-    let complaints = b"-
-no such name
-a second line of this name
-not a decimal number
-not hexadecimal
-not 16 bytes in hexadecimal
-a flag has no value, or set
-not an address and a port
-not 21 places
-more than a value";
-    note(to, b"yuthpram: line ");
-    note_number(to, slip.line as u64);
-    note(to, b": ");
-    note_line(to, complaints, what);
-    false
+// The image of the record that a text says, if each line is understood.
+pub fn image_of(text: &[u8]) -> Result<[u8; RECORD_SIZE], Slip>
+    ensures { IfErr result (λ slip. 0 < slip.line) }
+{
+    let mut out = [0u8; RECORD_SIZE];
+    let _ = image::image_to(TransportParameters::default(), &mut out);
+    put_lines(text, &mut out)?;
+    Ok(out)
 }

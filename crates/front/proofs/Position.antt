@@ -80,20 +80,20 @@ one_byte s at h k =
     rw (lent_is s at) (read_whole (drop at s) 0 l t l 0 refl ∙ ap (λ (x : ℕ). accepted (x, 1)) v)
 
 -- an identifier and a length of one byte each
-module _ (s : List ℕ) (at id len : ℕ) (room : 2 ≤ length s - at) (hi : id ≡ get_or s at 0) (hl : len ≡ get_or s (at + 1) 0) (h : bit_or id len < 64) where
+module _ (s : List ℕ) (at id len : ℕ) (room : 2 ≤ length s - at) (hi : id ≡ get_or s at 0) (hl : len ≡ get_or s (at + 1) 0) (h : bit_or (get_or s at 0) (get_or s (at + 1) 0) < 64) where
   first : read_number (lent s at) ≡ accepted (id, 1)
-  first = rw hi (one_byte s at (omega arith) (omega (arith, or_add_and id len, and_le_r id len)))
+  first = rw hi (one_byte s at (omega arith) (omega (arith, or_add_and (get_or s at 0) (get_or s (at + 1) 0), and_le_r (get_or s at 0) (get_or s (at + 1) 0))))
 
   second : read_number (lent s (at + 1)) ≡ accepted (len, 1)
-  second = rw hl (one_byte s (at + 1) (omega arith) (omega (arith, or_add_and id len, and_le_l id len)))
+  second = rw hl (one_byte s (at + 1) (omega arith) (omega (arith, or_add_and (get_or s at 0) (get_or s (at + 1) 0), and_le_l (get_or s at 0) (get_or s (at + 1) 0))))
 
   two : at + 1 + 1 ≡ at + 2
   two = omega arith
 
-  pub short_whole : len ≤ length s - at - 2 → accepted (id, at + 2, at + 2 + len) ≡ located s at
+  pub short_whole : at + 2 + len ≤ length s → accepted (id, at + 2, at + 2 + len) ≡ located s at
   short_whole k = rw two at (whole s at id 1 first len 1 second (omega arith))
 
-  pub short_beyond : length s - at - 2 < len → refused Cut ≡ located s at
+  pub short_beyond : length s < at + 2 + len → refused Cut ≡ located s at
   short_beyond k = beyond s at id 1 first len 1 second (omega arith)
 
 -- WHAT IS LOCATED

@@ -27,9 +27,7 @@ impl From<Fault> for Refusal {
 
     fn from(fault: Fault) -> Refusal {
         match fault {
-            Fault::Cut => Refusal::Malformed,
-            Fault::SecondCopy => Refusal::Malformed,
-            Fault::Misfit => Refusal::Malformed,
+            Fault::Cut | Fault::SecondCopy | Fault::Misfit => Refusal::Malformed,
             Fault::Illegal => Refusal::IllegalValue,
         }
     }
@@ -56,20 +54,21 @@ pub fn parameter_at(src: &[u8], at: usize) -> Result<Parameter, Fault>
         let len = src[at + 1];
         if (id | len) < 64 {
             let start = at + 2;
-            let n = len as usize;
-            if n <= left - 2 {
-                return Ok(Parameter {
-                    id: id as u64,
-                    start,
-                    end: start + n,
-                });
+            let end = start + usize::from(len);
+            if src.len() < end {
+                return Err(Fault::Cut);
             }
-            return Err(Fault::Cut);
+            return Ok(Parameter {
+                id: u64::from(id),
+                start,
+                end,
+            });
         }
     }
     any_parameter_at(src, at)
 }
 
+#[tactic(auto, using(crate::proofs::Position::first_within, crate::proofs::Position::second_within))]
 fn any_parameter_at(src: &[u8], at: usize) -> Result<Parameter, Fault>
     requires { at ≤ length src.now }
     ensures { parameter_outcome result ≡ located src.now at }
@@ -83,13 +82,12 @@ fn any_parameter_at(src: &[u8], at: usize) -> Result<Parameter, Fault>
     };
     let start = b + m;
     let left = src.len() - start;
-    if len <= left as u64 {
-        Ok(Parameter {
-            id,
-            start,
-            end: start + (len as usize),
-        })
-    } else {
-        Err(Fault::Cut)
+    if len > left as u64 {
+        return Err(Fault::Cut);
     }
+    Ok(Parameter {
+        id,
+        start,
+        end: start + (len as usize),
+    })
 }

@@ -2,23 +2,22 @@
 --     laid          parts stored one after another are their image
 --     parts_sizes   the sizes of a record's parts, of arrays as long as their types say
 --     room, no_room what storing an image answers
-use Prim.Native.Nat.{ℕ, ◌+◌, ◌*◌, ◌/◌, ◌%◌, ◌≤◌, ◌<◌}
+use Prim.Native.Nat.{ℕ, ◌+◌, ◌*◌, ◌≤◌, ◌<◌}
 use mathlib.Core.Path.{◌≡◌, refl, ap, ap₂, sym, ◌∙◌}
 use mathlib.Core.List.{List, [], ◌∷◌, ◌++◌, map, append-nil, append_assoc}
-use native.Mathlib.Nat.{div-one}
+use mathlib.Core.Bool.{Bool, true, false}
+use mir.Val.{bool_byte}
 use native.Mathlib.Numerals.{add-one}
 use native.Mathlib.Omega.{arith}
 use lib.ListN.{length, get_or, take, set, length-append}
 use lib.Seq.{sets, take-suc, length-take-le}
 use borrow.Author.Tests.{le-leb, lt-leb}
 use Rattle.refusal.specs.Outcome.{accepted, refused, store}
-use Rattle.words.specs.Words.{bytes_of}
 use Rattle.varint.proofs.Bytes.{stored}
 use Rattle.words.proofs.Big.{length_bytes_of}
 use Rattle.record.specs.declared.TransportParameters.{TransportParameters}
-use Rattle.record.specs.Values.{Family}
 use Rattle.record.specs.Record.{least}
-use Rattle.image.specs.Image.{joined, flag_byte, eight_bytes, numbers_image, family_parts, front_parts, id_parts, address_parts, rest_parts, parts, image_of}
+use Rattle.image.specs.Image.{joined, flag_byte, eight_bytes, numbers_image, front_parts, id_parts, address_parts, rest_parts, parts, image_of}
 use Rattle.image.proofs.Places.{stored_then}
 
 -- PARTS, one after another: a byte; a part; a byte and what stands behind it; several parts; the last ones
@@ -48,6 +47,11 @@ laid out at ps (last e) = e
 -- nothing more
 pub done : {out : List ℕ} {at : ℕ} → Laid out at [] out
 done = last refl
+
+-- a flag, as the library makes it a byte
+pub flag_stored : {n : ℕ} (b : Bool) → n ≡ bool_byte b → n ≡ flag_byte b
+flag_stored true e = e
+flag_stored false e = e
 
 -- SIZES
 abbrev pub sum : List ℕ → ℕ
@@ -79,14 +83,6 @@ numbers_more l v out ys b i h e f g =
     stored_then l out ys (numbers_image (take i v)) (eight_bytes (get_or v i 0)) 0 (i * 8) e k (g ∙ ap (sets out (i * 8)) f)
     ∙ rw (add-one, take-suc v i 0 h, numbers_append (take i v) (get_or v i 0 ∷ []), append-nil (eight_bytes (get_or v i 0)))
 
--- A FAMILY
-pub family_stored : (f : Family) (out m : List ℕ) (at b x y : ℕ) → m ≡ sets out at (b ∷ f.1) → b ≡ flag_byte f.0 → x ≡ f.2 / 256 % 256 → y ≡ f.2 % 256
-    → set (set m (at + 1 + length f.1) x) (at + 1 + length f.1 + 1) y ≡ sets out at (joined (family_parts f))
-family_stored f out m at b x y e eb ex ey =
-    let k = at + 1 + length f.1 in
-    let p : set (set m k x) (k + 1) y ≡ sets m k (bytes_of 2 f.2) = rw (ex, ey, add-one k, div-one f.2) in
-    laid out at (family_parts f) (behind {k = k} e eb refl (omega arith) (put p refl done))
-
 -- what storing an image answers
 pub no_room : (bs out : List ℕ) (n : ℕ) → length bs ≡ n → length out < n → (refused 5, out) ≡ store bs out
 unfolding store
@@ -101,10 +97,10 @@ room bs out ys n l h e =
 -- THE RECORD, of arrays as long as their types say
 pub record Sized (r : TransportParameters) : Type 0 where
   pub numbers : length r.numbers ≡ 11
-  pub original : length r.original_dst_cid.cid.bytes ≡ 20
-  pub initial : length r.initial_src_cid.cid.bytes ≡ 20
-  pub retry : length r.retry_src_cid.cid.bytes ≡ 20
-  pub token : length r.stateless_reset_token.token.bytes ≡ 16
+  pub original : length r.original_dst_cid.value.bytes ≡ 20
+  pub initial : length r.initial_src_cid.value.bytes ≡ 20
+  pub retry : length r.retry_src_cid.value.bytes ≡ 20
+  pub token : length r.stateless_reset_token.value.bytes ≡ 16
   pub v4 : length r.preferred_address.address_v4.ip ≡ 4
   pub v6 : length r.preferred_address.address_v6.ip ≡ 16
   pub id : length r.preferred_address.connection_id.bytes ≡ 20
@@ -136,32 +132,20 @@ map_append (p ∷ ps) qs = ap (λ t. length p ∷ t) (map_append ps qs)
 long : (ps : List (List ℕ)) (ns : List ℕ) → map length ps ≡ ns → length (joined ps) ≡ sum ns
 long ps ns e = joined_size ps ∙ ap sum e
 
-abbrev front_of : TransportParameters → List (List ℕ)
-front_of r = front_parts r.numbers r.disable_active_migration r.grease_quic_bit r.max_datagram_frame_size r.min_ack_delay
-
-abbrev ids_of : TransportParameters → List (List ℕ)
-ids_of r = id_parts r.original_dst_cid r.initial_src_cid r.retry_src_cid r.stateless_reset_token
-
-abbrev address_of : TransportParameters → List (List ℕ)
-address_of r = address_parts r.preferred_address
-
-abbrev rest_of : TransportParameters → List (List ℕ)
-rest_of r = rest_parts r.grease_transport_parameter r.write_order
-
 module _ (r : TransportParameters) (z : Sized r) where
-  front : map length (front_of r) ≡ front_sizes
+  front : map length (front_parts r) ≡ front_sizes
   unfolding front_parts
   front = rw (numbers_size r.numbers, z.numbers, eight (least r.max_datagram_frame_size), eight (least r.min_ack_delay))
 
-  ids : map length (ids_of r) ≡ id_sizes
+  ids : map length (id_parts r) ≡ id_sizes
   unfolding id_parts
   ids = rw (z.original, z.initial, z.retry, z.token)
 
-  address : map length (address_of r) ≡ address_sizes
+  address : map length (address_parts r.preferred_address) ≡ address_sizes
   unfolding address_parts
   address = rw (z.v4, z.v6, z.id, z.reset)
 
-  rest : map length (rest_of r) ≡ rest_sizes
+  rest : map length (rest_parts r) ≡ rest_sizes
   unfolding rest_parts
   rest = rw (eight r.grease_transport_parameter.id, z.payload, z.order)
 
@@ -173,11 +157,11 @@ module _ (r : TransportParameters) (z : Sized r) where
   unfolding image_of
   image_size = long (parts r) sizes parts_sizes
 
-  pub record_stored : (out m1 m2 m3 ys : List ℕ) → m1 ≡ sets out 0 (joined (front_of r)) → m2 ≡ sets m1 108 (joined (ids_of r))
-      → m3 ≡ sets m2 191 (joined (address_of r)) → ys ≡ sets m3 255 (joined (rest_of r)) → ys ≡ sets out 0 (image_of r)
+  pub record_stored : (out m1 m2 m3 ys : List ℕ) → m1 ≡ sets out 0 (joined (front_parts r)) → m2 ≡ sets m1 108 (joined (id_parts r))
+      → m3 ≡ sets m2 191 (joined (address_parts r.preferred_address)) → ys ≡ sets m3 255 (joined (rest_parts r)) → ys ≡ sets out 0 (image_of r)
   unfolding image_of parts
   record_stored out m1 m2 m3 ys e1 e2 e3 e4 =
       laid out 0 (parts r)
-      (group {k = 108} (front_of r) e1 (ap (λ n. 0 + n) (long (front_of r) front_sizes front))
-      (group {k = 191} (ids_of r) e2 (ap (λ n. 108 + n) (long (ids_of r) id_sizes ids))
-      (group {k = 255} (address_of r) e3 (ap (λ n. 191 + n) (long (address_of r) address_sizes address)) (last {ps = rest_of r} e4))))
+      (group {k = 108} (front_parts r) e1 (ap (λ n. 0 + n) (long (front_parts r) front_sizes front))
+      (group {k = 191} (id_parts r) e2 (ap (λ n. 108 + n) (long (id_parts r) id_sizes ids))
+      (group {k = 255} (address_parts r.preferred_address) e3 (ap (λ n. 191 + n) (long (address_parts r.preferred_address) address_sizes address)) (last {ps = rest_parts r} e4))))

@@ -7,11 +7,8 @@ use Rattle.connection_id.specs.declared.ConnectionId.{ConnectionId}
 use Rattle.record.specs.declared.TransportParameters.{TransportParameters}
 use Rattle.record.specs.Optional.{OptionalNumber}
 use Rattle.std.specs.Prelude.{None, Some}
-use Rattle.record.specs.declared.OptionalConnectionId.{OptionalConnectionId}
-use Rattle.record.specs.declared.OptionalResetToken.{OptionalResetToken}
+use Rattle.record.specs.Optional.{OptionalConnectionId}
 use Rattle.record.specs.declared.PreferredAddress.{PreferredAddress}
-use Rattle.record.specs.declared.ReservedTransportParameter.{ReservedTransportParameter}
-use Rattle.record.specs.declared.WriteOrder.{WriteOrder}
 use Rattle.record.specs.Values.{Family, token_of, to_v4, to_v6, of_v4, of_v6}
 use Rattle.record.specs.Record.{is_present, least}
 
@@ -48,19 +45,22 @@ abbrev pub cid_parts : ConnectionId → List (List ℕ)
 cid_parts c = (c.len ∷ []) ∷ c.bytes ∷ []
 
 abbrev pub optional_cid_parts : OptionalConnectionId → List (List ℕ)
-optional_cid_parts o = flag o.present ∷ cid_parts o.cid
+optional_cid_parts o = flag o.present ∷ cid_parts o.value
 
 -- the flag, the address, the port
 abbrev pub family_parts : Family → List (List ℕ)
 family_parts f = flag f.0 ∷ f.1 ∷ bytes_of 2 f.2 ∷ []
 
-unfoldable pub front_parts : List ℕ → Bool → Bool → OptionalNumber → OptionalNumber → List (List ℕ)
-front_parts numbers migration grease size delay =
-    numbers_image numbers ∷ flag migration ∷ flag grease ∷ (optional_parts size ++ optional_parts delay)
+unfoldable pub front_parts : TransportParameters → List (List ℕ)
+front_parts r =
+    numbers_image r.numbers ∷ flag r.disable_active_migration ∷ flag r.grease_quic_bit
+    ∷ (optional_parts r.max_datagram_frame_size ++ optional_parts r.min_ack_delay)
 
-unfoldable pub id_parts : OptionalConnectionId → OptionalConnectionId → OptionalConnectionId → OptionalResetToken → List (List ℕ)
-id_parts original initial retry token =
-    optional_cid_parts original ++ (optional_cid_parts initial ++ (optional_cid_parts retry ++ (flag token.present ∷ token.token.bytes ∷ [])))
+unfoldable pub id_parts : TransportParameters → List (List ℕ)
+id_parts r =
+    optional_cid_parts r.original_dst_cid
+    ++ (optional_cid_parts r.initial_src_cid
+    ++ (optional_cid_parts r.retry_src_cid ++ (flag r.stateless_reset_token.present ∷ r.stateless_reset_token.value.bytes ∷ [])))
 
 unfoldable pub address_parts : PreferredAddress → List (List ℕ)
 address_parts a =
@@ -69,15 +69,14 @@ address_parts a =
     ++ (family_parts (of_v6 a.address_v6) ++ (cid_parts a.connection_id ++ (a.stateless_reset_token.bytes ∷ []))))
 
 -- the reserved parameter: the flag, the identifier, the length of the payload, the payload; then the order
-unfoldable pub rest_parts : ReservedTransportParameter → WriteOrder → List (List ℕ)
-rest_parts x w =
-    flag x.present ∷ eight_bytes x.id ∷ (x.payload_len ∷ []) ∷ x.payload ∷ flag w.present ∷ w.places ∷ []
+unfoldable pub rest_parts : TransportParameters → List (List ℕ)
+rest_parts r =
+    flag r.grease_transport_parameter.present ∷ eight_bytes r.grease_transport_parameter.id
+    ∷ (r.grease_transport_parameter.payload_len ∷ []) ∷ r.grease_transport_parameter.payload
+    ∷ flag r.write_order.present ∷ r.write_order.places ∷ []
 
 unfoldable pub parts : TransportParameters → List (List ℕ)
-parts r =
-    front_parts r.numbers r.disable_active_migration r.grease_quic_bit r.max_datagram_frame_size r.min_ack_delay
-    ++ (id_parts r.original_dst_cid r.initial_src_cid r.retry_src_cid r.stateless_reset_token
-    ++ (address_parts r.preferred_address ++ rest_parts r.grease_transport_parameter r.write_order))
+parts r = front_parts r ++ (id_parts r ++ (address_parts r.preferred_address ++ rest_parts r))
 
 unfoldable pub image_of : TransportParameters → List ℕ
 image_of r = joined (parts r)
@@ -106,7 +105,7 @@ unfoldable pub cid_at : ℕ → List ℕ → ConnectionId
 cid_at at s = record { len = get_or s at 0; bytes = part (at + 1) 20 s }
 
 unfoldable pub optional_cid_at : ℕ → List ℕ → OptionalConnectionId
-optional_cid_at at s = record { present = flag_at at s; cid = cid_at (at + 1) s }
+optional_cid_at at s = record { present = flag_at at s; value = cid_at (at + 1) s }
 
 unfoldable pub address_at : List ℕ → PreferredAddress
 address_at s =
@@ -129,7 +128,7 @@ record_at s =
       min_ack_delay = optional_at 99 s;
       original_dst_cid = optional_cid_at 108 s;
       retry_src_cid = optional_cid_at 152 s;
-      stateless_reset_token = record { present = flag_at 174 s; token = token_of (part 175 16 s) };
+      stateless_reset_token = record { present = flag_at 174 s; value = token_of (part 175 16 s) };
       preferred_address = address_at s;
       grease_transport_parameter
           = record { present = flag_at 255 s; id = number_at 256 8 s; payload = part 265 16 s; payload_len = get_or s 264 0 };

@@ -22,7 +22,7 @@ use Rattle.connection_id.specs.ConnectionId.{formed_cid}
 use Rattle.record.specs.declared.TransportParameters.{TransportParameters}
 use Rattle.record.specs.Optional.{OptionalNumber}
 use Rattle.std.specs.Prelude.{None, Some}
-use Rattle.record.specs.declared.OptionalConnectionId.{OptionalConnectionId}
+use Rattle.record.specs.Optional.{OptionalConnectionId}
 use Rattle.record.specs.Values.{Family, of_v4, of_v6}
 use Rattle.record.specs.Record.{is_present, least, well_formed, formed_optional, formed_optional_cid, formed_token, formed_optional_token, formed_family, formed_address, formed_reserved, formed_order}
 use Rattle.image.specs.Image.{part, flag_byte, eight_bytes, numbers_image, numbers_at, optional_at, cid_image, cid_at, optional_cid_at, address_at, joined, front_parts, id_parts, address_parts, rest_parts, parts, image_of, record_at, flag_places, flags_hold, zero_if_absent, is_image, record_from, cid_from}
@@ -86,9 +86,9 @@ cid_long : (c : ConnectionId) → formed_cid c ≡ true → length c.bytes ≡ 2
 unfolding formed_cid
 cid_long c f = eqb-true _ _ (all_at _ f 0)
 
-optional_cid_long : (o : OptionalConnectionId) → formed_optional_cid o ≡ true → length o.cid.bytes ≡ 20
+optional_cid_long : (o : OptionalConnectionId) → formed_optional_cid o ≡ true → length o.value.bytes ≡ 20
 unfolding formed_optional_cid
-optional_cid_long o f = cid_long o.cid (all_at _ f 0)
+optional_cid_long o f = cid_long o.value (all_at _ f 0)
 
 family_formed : (n : ℕ) (f : Family) → formed_family n f ≡ true → (length f.1 ≡ n) × (f.2 < 65536)
 unfolding formed_family

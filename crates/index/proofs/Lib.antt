@@ -1,3 +1,4 @@
 pub mod Turn
 pub mod Sound
 pub mod Settled
+pub mod Parts

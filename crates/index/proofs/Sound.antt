@@ -1,6 +1,5 @@
 -- What is kept lies within the extension, and fits. Assumes nothing.
 --     sound            of an extension that is indexed
---     address_within   the length of an address's connection ID can be looked at
 use Prim.Native.Nat.{ℕ, zero, suc, ◌+◌, ◌-◌, ◌%◌, ◌≤◌, ◌<◌}
 use mathlib.Core.Path.{◌≡◌, refl, sym, ◌∙◌, subst}
 use mathlib.Core.List.{List, [], ◌∷◌, ◌++◌}
@@ -9,12 +8,12 @@ use native.Mathlib.Omega.{arith}
 use lib.ListN.{length, get_or, take, drop, set, replicate, length-set, length-drop, length-replicate, get_or-replicate, get_or-eq_default}
 use lib.Seq.{get_or-set_same, get_or-set_other, length-take-le}
 use lib.Dec.{eqb, ltb}
-use borrow.Author.Tests.{eqb-true, eqb-false, ltb-true, ltb-false, leb-true}
+use borrow.Author.Tests.{eqb-true, eqb-false, ltb-true, ltb-false}
 use Rattle.refusal.specs.Outcome.{Result, accepted, pick, and_then}
-use Rattle.refusal.proofs.Laws.{inverted, picked, all_at}
+use Rattle.refusal.proofs.Laws.{inverted, picked}
 use Rattle.marks.specs.Mark.{marked, mark}
 use Rattle.marks.proofs.Laws.{marked_other, unmarked}
-use Rattle.catalogue.specs.Catalogue.{Kind, number, flag, cid, token, address, reserved, places, place_of, kinds, other_kinds, kind_at, defaults, fits}
+use Rattle.catalogue.specs.Catalogue.{Kind, number, flag, cid, token, address, reserved, places, place_of, kind_at, defaults, fits}
 use Rattle.catalogue.proofs.Places.{number_kind}
 use Rattle.rules.specs.declared.Side.{Side}
 use Rattle.front.specs.declared.Fault.{Fault}
@@ -152,21 +151,3 @@ unfolding indexed
 sound side s f e =
     inverted (index_from s 0 nothing) _ f (sym e) λ g ge gf.
     picked (kept_rules side s g) g f Illegal gf λ t q. subst (Sound s) q (scan_sound s g (sym ge))
-
--- 15 holds an address
-address_kind : kind_at 15 ≡ address
-unfolding kind_at kinds other_kinds
-address_kind = refl
-
-pub address_within : (s : List ℕ) (f : Found) → Sound s f → marked f.0 15 ≡ true → get_or f.1 15 0 + 24 < length s
-address_within s f i m =
-    let n : kind_at 15 ≡ number → ⊥ = λ k. no_number (sym address_kind ∙ k) in
-    let t : fits address (take (get_or f.2 15 0) (drop (get_or f.1 15 0) s)) ≡ true = rw address_kind at (i.fit 15 n m) in
-    let l : length (take (get_or f.2 15 0) (drop (get_or f.1 15 0) s)) ≡ get_or f.2 15 0 = length-take-le _ _ (rw length-drop (omega (arith, i.within 15 n))) in
-    omega (arith, long_enough _ t, i.within 15 n)
-  where
-    no_number : address ≡ number → ⊥
-    no_number e = let z : ◌≡◌ {A = ℕ} 0 1 = cc in omega arith
-
-    long_enough : (v : List ℕ) → fits address v ≡ true → 41 ≤ length v
-    long_enough v t = unfold fits in leb-true 41 (length v) (all_at _ t 0)

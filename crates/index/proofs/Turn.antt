@@ -15,7 +15,6 @@ use Rattle.marks.specs.Mark.{marked}
 use Rattle.catalogue.specs.Catalogue.{places, place_of}
 use Rattle.catalogue.proofs.Places.{place_within}
 use Rattle.front.specs.declared.Fault.{Fault}
-use Rattle.front.specs.declared.Fault.TheVariants.{Cut}
 use Rattle.front.specs.Parameter.{located}
 use Rattle.front.proofs.Position.{lent, lent_is, within}
 use Rattle.value.specs.Value.{receive_value}

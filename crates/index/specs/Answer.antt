@@ -1,15 +1,24 @@
 -- The code's answers in the definitions' terms.
-use Rattle.std.specs.Prelude.{ℕ, List, Result as Answer, Ok, Err}
+use Rattle.std.specs.Prelude.{ℕ, List, Option as Maybe, None, Some, Result as Answer, Ok, Err}
+use Rattle.std.proofs.Math.Option.{Option, none, some}
 use Rattle.refusal.specs.Outcome.{Result, accepted, refused}
 use Rattle.front.specs.declared.Fault.{Fault}
 use Rattle.index.specs.declared.Entries.{Entries}
 use Rattle.index.specs.Index.{Found}
 
 -- the marks, with what stands in the arrays
-abbrev pub scan_outcome : Answer ℕ Fault → List ℕ → List ℕ → Result Fault Found
-scan_outcome (Ok m) kept lens = accepted (m, kept, lens)
-scan_outcome (Err f) kept lens = refused f
+abbrev pub found_of : Entries → Found
+found_of e = (e.marks, e.kept, e.lens)
+
+abbrev pub scan_outcome : Answer (Unit {0}) Fault → Entries → Result Fault Found
+scan_outcome (Ok u) e = accepted (found_of e)
+scan_outcome (Err f) e = refused f
 
 abbrev pub index_outcome : Answer Entries Fault → Result Fault Found
-index_outcome (Ok e) = accepted (e.marks, e.kept, e.lens)
+index_outcome (Ok e) = accepted (found_of e)
 index_outcome (Err f) = refused f
+
+-- a value that may be missing
+abbrev pub given : Maybe (List ℕ) → Option (List ℕ)
+given None = none
+given (Some v) = some v

@@ -1,9 +1,12 @@
 -- What is kept of an extension: marks of the places met; by place, the number or where the value starts; and the value's length.
-use Rattle.std.specs.Prelude.{ℕ, zero, suc, ◌+◌, ◌-◌, ◌%◌, ◌≤◌, List, [], ◌∷◌, ◌++◌, ◌≡◌, Bool, true, length, get_or, take, drop, set, replicate, ltb}
+use Rattle.std.specs.Prelude.{ℕ, zero, suc, ◌+◌, ◌-◌, ◌%◌, ◌≤◌, List, [], ◌∷◌, ◌++◌, ◌≡◌, Bool, true, ◌&&◌, length, get_or, take, drop, set, replicate, ltb, leb}
+use Rattle.std.specs.Prelude.{None, Some}
+use Rattle.std.proofs.Math.Option.{Option, none, some}
 use Rattle.refusal.specs.Outcome.{Result, accepted, refused, pick, and_then, all}
 use Rattle.words.specs.Words.{elements}
 use Rattle.marks.specs.Mark.{marked, mark}
 use Rattle.catalogue.specs.Catalogue.{number, places, place_of, kind_at, defaults, fits}
+use Rattle.record.specs.Optional.{OptionalNumber}
 use Rattle.rules.specs.declared.Side.{Side}
 use Rattle.rules.specs.Rules.{is_server, number_rules, presence_rules}
 use Rattle.front.specs.declared.Fault.{Fault}
@@ -46,6 +49,18 @@ index_in (suc n) s at f =
 -- each has a byte at least
 unfoldable pub index_from : List ℕ → ℕ → Found → Result Fault Found
 index_from s at f = index_in (length s - at) s at f
+
+-- the value at a place that holds no number
+unfoldable pub value_at : List ℕ → Found → ℕ → Option (List ℕ)
+value_at s f p = pick (marked f.0 p) (some (take (get_or f.2 p 0) (drop (get_or f.1 p 0) s))) none
+
+-- the same where it stands within the extension; none elsewhere
+unfoldable pub value_within : List ℕ → Found → ℕ → Option (List ℕ)
+value_within s f p = pick (ltb p places && leb (get_or f.1 p 0 + get_or f.2 p 0) (length s)) (value_at s f p) none
+
+-- the number at one that holds a number
+abbrev pub optional_at : Found → ℕ → OptionalNumber
+optional_at f p = pick (marked f.0 p) (Some (get_or f.1 p 0)) None
 
 -- the length of the preferred address's connection ID, 0 if there is no address
 unfoldable pub id_len : List ℕ → Found → ℕ

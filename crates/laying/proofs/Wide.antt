@@ -4,11 +4,13 @@
 --     headed         identifier, length and value, stored one over the end of the other
 --     lay_none, lay_whole, lay_nil    without room, with it, and of no bytes
 --     lay_clear      on a buffer of zeros it is storing exactly
-use Prim.Native.Nat.{ℕ, zero, suc, ◌+◌, ◌-◌, ◌*◌, ◌%◌, ◌^◌, ◌≤◌, ◌<◌}
+use Prim.Native.Nat.{ℕ, zero, suc, ◌+◌, ◌-◌, ◌*◌, ◌/◌, ◌%◌, ◌^◌, ◌≤◌, ◌<◌}
 use mathlib.Core.List.{List, [], ◌∷◌, ◌++◌, append_assoc}
 use mathlib.Core.Path.{◌≡◌, refl, ap, ap₂, sym, ◌∙◌}
-use mathlib.Core.Bool.{Bool, true, false, ◌&&◌}
+use mathlib.Core.Bool.{Bool, true, false, ◌&&◌, not}
+use mir.Val.{bool_byte}
 use native.Mathlib.Omega.{arith}
+use native.Mathlib.Nat.{div-one}
 use lib.ListN.{length, take, drop, set, replicate, length-append, length-drop, length-set, length-replicate, take-append-drop}
 use lib.Seq.{sets-eq, take_at, drop_at, drop-drop, take-take, take-append-le, drop-append-add, length-take-le}
 use lib.Bits.{bit_or}
@@ -25,12 +27,20 @@ use Rattle.laying.specs.Laying.{lay, number_rest, laid_number, laid_field}
 use Rattle.wire.proofs.Stored.{lent, back, rest, whole, length_front, length_lent, front_nil, front_two}
 use Rattle.wire.proofs.Put.{put_whole, number_size_lem, number_low, is_due, one_byte, due_short, short_form}
 
-pub tag_sum : (x : ℕ) → pick (ltb x 64) 0 1 + pick (ltb x 16384) 0 1 + pick (ltb x 1073741824) 0 1 ≡ tag_of x
+-- a test from a limit on is that below it, turned
+over : (l x : ℕ) → leb l x ≡ not (ltb x l)
+over l x = go (ltb x l) refl
+  where
+    go : (t : Bool) → ltb x l ≡ t → leb l x ≡ not t
+    go true e = lt-leb l x (ltb-true x l e)
+    go false e = le-leb l x (ltb-false x l e)
+
+pub tag_sum : (x : ℕ) → bool_byte (leb 64 x) + bool_byte (leb 16384 x) + bool_byte (leb 1073741824 x) ≡ tag_of x
 unfolding tag_of
-tag_sum x = go (ltb x 64) refl (ltb x 16384) refl (ltb x 1073741824) refl
+tag_sum x = rw (over 64 x, over 16384 x, over 1073741824 x) (go (ltb x 64) refl (ltb x 16384) refl (ltb x 1073741824) refl)
   where
     go : (a : Bool) → ltb x 64 ≡ a → (b : Bool) → ltb x 16384 ≡ b → (d : Bool) → ltb x 1073741824 ≡ d
-        → pick a 0 1 + pick b 0 1 + pick d 0 1 ≡ pick a 0 (pick b 1 (pick d 2 3))
+        → bool_byte (not a) + bool_byte (not b) + bool_byte (not d) ≡ pick a 0 (pick b 1 (pick d 2 3))
     go true e true f true g = refl
     go true e true f false g = absurd (omega (arith, ltb-true x 64 e, ltb-false x 1073741824 g))
     go true e false f d g = absurd (omega (arith, ltb-true x 64 e, ltb-false x 16384 f))
@@ -62,6 +72,10 @@ wide_bytes k x h = four k (λ k. x < 64 * 256 ^ (2 ^ k - 1) → bytes_of 8 (shif
 
     three : x < 64 * 256 ^ 7 → bytes_of 8 (shifted 3 x) ≡ form 3 x ++ replicate 0 0
     three l = rw (joined 62 3 x (omega arith) (omega arith)) (eight (omega arith) (omega arith) (omega arith) (omega arith) (omega arith) (omega arith) (omega arith) (omega arith))
+
+-- the eight bytes of a number
+pub eight_bytes : (y : ℕ) → y / 72057594037927936 % 256 ∷ y / 281474976710656 % 256 ∷ y / 1099511627776 % 256 ∷ y / 4294967296 % 256 ∷ y / 16777216 % 256 ∷ y / 65536 % 256 ∷ y / 256 % 256 ∷ y % 256 ∷ [] ≡ bytes_of 8 y
+eight_bytes y = rw div-one
 
 -- LAYING
 module _ (room : ℕ) (bs more out : List ℕ) where
@@ -127,10 +141,6 @@ headed ds vs out m ys a t e h k r f g =
     (sets-eq (t ∷ []) l a ll ∙ rw (ta, da, y, n, append_assoc, append_assoc))
 
 -- WHAT THE FUNCTIONS NEED
-pub at_most_one : (t : Bool) → pick t 0 1 ≤ 1
-at_most_one true = omega arith
-at_most_one false = omega arith
-
 -- the bits of a form, as a number of 32 bits
 pub record Bits (k : ℕ) : Type 0 where
   pub is : 8 * 2 ^ k % 2 ^ 32 ≡ 8 * 2 ^ k
@@ -141,13 +151,16 @@ pub bits : (k : ℕ) → k ≤ 3 → Bits k
 bits k h = four k Bits h (record { is = refl; few = omega arith; most = omega arith }) (record { is = refl; few = omega arith; most = omega arith })
     (record { is = refl; few = omega arith; most = omega arith }) (record { is = refl; few = omega arith; most = omega arith })
 
-pub wide_stored : (x k r y : ℕ) (out m : List ℕ) → k ≡ tag_of x → r ≡ 1 * 2 ^ k % 2 ^ 64 → bytes_of 8 y ≡ form k x ++ replicate (8 - 2 ^ k) 0 → m ≡ front (bytes_of 8 y) out
-    → (r ≡ length (number_bytes x)) × (m ≡ front (number_bytes x ++ replicate (8 - r) 0) out)
-wide_stored x k r y out m e f g h =
+pub wide_stored : (x k r : ℕ) (s out : List ℕ) → k ≡ tag_of x → r ≡ 1 * 2 ^ k % 2 ^ 64 → s ≡ form k x ++ replicate (8 - 2 ^ k) 0
+    → (r ≡ length (number_bytes x)) × (s ++ drop 8 out ≡ front (number_bytes x ++ replicate (8 - r) 0) out)
+unfolding front
+wide_stored x k r s out e f g =
     let w : 1 * 2 ^ k % 2 ^ 64 ≡ 2 ^ k = four k (λ k. 1 * 2 ^ k % 2 ^ 64 ≡ 2 ^ k) (rw e (tag_le x)) refl refl refl refl in
     let l : r ≡ 2 ^ k = f ∙ w in
-    let n : form k x ≡ number_bytes x = ap (λ (i : ℕ). form i x) e in
-    (l ∙ ap (λ (i : ℕ). 2 ^ i) e ∙ sym (length_form (tag_of x) x (tag_le x)), h ∙ ap (λ (s : List ℕ). front s out) (g ∙ rw (l, n)))
+    let n : r ≡ length (number_bytes x) = l ∙ ap (λ (i : ℕ). 2 ^ i) e ∙ sym (length_form (tag_of x) x (tag_le x)) in
+    let q : s ≡ number_bytes x ++ replicate (8 - r) 0 = g ∙ rw (l, e) in
+    let z : length (number_bytes x ++ replicate (8 - r) 0) ≡ 8 = rw (length-append (number_bytes x) (replicate (8 - r) 0), length-replicate) (omega (arith, number_size_lem x)) in
+    (n, rw (z, ← q))
 
 -- a number that is not due, or that the wire form does not carry
 module _ (id x : ℕ) (out : List ℕ) where
@@ -278,12 +291,6 @@ module _ (id n : ℕ) (v out : List ℕ) where
         (rw (b, length-append (number_bytes id) (n ∷ take n v), p) (omega arith))
         (headed (number_bytes id) v out m ys a n e (omega arith) d.least (omega arith) g q
         ∙ rw (b, append_assoc, take-append-drop n v)))
-
--- the buffer stays as long
-pub stays : (at a t : ℕ) (out m ys : List ℕ) → at ≤ length m → length ys ≡ length (lent at m) → length m ≡ length out → length (set (back at m ys) a t) ≡ length out
-stays at a t out m ys h e f =
-    let l : length (take at m) ≡ at = length-take-le at m h in
-    length-set (back at m ys) a t ∙ rw (whole at m ys, length-append (take at m) ys) (omega (arith, length_lent at m))
 
 -- ON A BUFFER OF ZEROS
 none_zero : (t : Bool) (l : List ℕ) → zeros l ≡ true → zeros (pick t l []) ≡ true

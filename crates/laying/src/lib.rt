@@ -1,5 +1,6 @@
 // Parameters laid at the front of a buffer with room to spare: others that do not count are stored behind each, as zeros where the buffer is zeros.
-// So a number is stored without a branch on its width, and a field whole. Each gives the parameter's byte count, or stores nothing and gives 0.
+// So a number is stored without a branch on its width, and a field whole. Each gives the parameter's byte count, or stores nothing and gives 0,
+// as the writers of crate wire do.
 #![tactic(auto)]
 
 ghost use Rattle.std.specs.Prelude.{◌≡◌, true, ◌&&◌, ◌++◌, ◌-◌, ◌*◌, ◌^◌, ◌<◌, ◌≤◌, length, replicate, leb, ltb};
@@ -10,7 +11,6 @@ ghost use Rattle.laying.specs.Laying.{laid_number, laid_field};
 
 use varint::VarInt;
 use wire::put_bytes;
-use words::{and, put_word};
 
 // Room for any identifier, the length of a number, and any number.
 const WIDEST: usize = 17;
@@ -19,23 +19,17 @@ const WIDEST: usize = 17;
 fn tag_of(x: u64) -> u32
     ensures { result ≡ tag_of x }
 {
-    from(64, x) + from(16384, x) + from(1073741824, x)
+    u32::from(64 <= x) + u32::from(16384 <= x) + u32::from(1073741824 <= x)
 }
 
-// 1 from a limit on, 0 below it.
-fn from(limit: u64, x: u64) -> u32
-    ensures { result ≡ pick (ltb x limit) 0 1 }
-{
-    if x < limit { 0 } else { 1 }
-}
-
-// The number whose eight bytes are the form of a tag and zeros behind it.
-fn wide_form(tag: u32, x: u64) -> u64
+// The form of a tag, and zeros behind it.
+fn wide_form(tag: u32, x: u64) -> [u8; 8]
     requires { (tag ≤ 3) × (x < 64 * 256 ^ (2 ^ tag - 1)) }
-    ensures { bytes_of 8 result ≡ form tag x ++ replicate (8 - 2 ^ tag) 0 }
+    ensures { result ≡ form tag x ++ replicate (8 - 2 ^ tag) 0 }
 {
     let bits: u32 = 8 << tag;
-    (((tag as u64) << (bits - 2)) | x) << (64 - bits)
+    let high = (((tag as u64) << (bits - 2)) | x) << (64 - bits);
+    high.to_be_bytes()
 }
 
 // Stores a number's shortest form, and zeros behind it, up to eight bytes; gives the form's length.
@@ -44,7 +38,7 @@ fn put_wide(x: u64, out: &mut [u8]) -> usize
     ensures { (result ≡ length (number_bytes x)) × (out.new ≡ front (number_bytes x ++ replicate (8 - result) 0) out.old) }
 {
     let tag = tag_of(x);
-    put_word(wide_form(tag, x), out);
+    out[..8].copy_from_slice(&wide_form(tag, x));
     1 << tag
 }
 
@@ -119,5 +113,5 @@ pub fn lay_field(due: bool, id: u64, n: usize, v: &[u8], out: &mut [u8]) -> usiz
 fn is_field(n: usize, v: &[u8]) -> bool
     ensures { result ≡ (leb 8 (length v.now) && (ltb (length v.now) 64 && leb n (length v.now))) }
 {
-    and(8 <= v.len(), and(v.len() < 64, n <= v.len()))
+    (8 <= v.len()) & (v.len() < 64) & (n <= v.len())
 }

@@ -22,23 +22,22 @@ use Rattle.catalogue.proofs.Sums.{sum_eq}
 use Rattle.record.specs.declared.TransportParameters.{TransportParameters}
 use Rattle.record.specs.Optional.{OptionalNumber}
 use Rattle.std.specs.Prelude.{None, Some}
-use Rattle.record.specs.declared.OptionalConnectionId.{OptionalConnectionId}
+use Rattle.record.specs.Optional.{OptionalConnectionId}
 use Rattle.record.specs.declared.ReservedTransportParameter.{ReservedTransportParameter}
 use Rattle.record.specs.Values.{number_out, optional_out, flag_out, cid_out, token_out, address_out, other_values, values_of}
 use Rattle.record.specs.Record.{formed_optional_cid, formed_token, formed_optional_token, formed_reserved, well_formed}
 use Rattle.record.proofs.Address.{address_length_lem}
-use Rattle.wire.proofs.Put.{number_size_lem}
 use Rattle.writer.specs.Writing.{reserved_bytes, parameter_at, length_of}
 use Rattle.length.specs.Length.{value_length, number_length_at, optional_length, cid_length, reserved_length, others_length}
 
 -- what the code gives for a parameter
-pub not_due : (id n : ℕ) → (0 ≡ value_length false id n) × (0 < 1024)
+pub not_due : (id n : ℕ) → 0 ≡ value_length false id n
 unfolding value_length
-not_due id n = (refl, omega arith)
+not_due id n = refl
 
-pub is_due : (id n a b : ℕ) → n < 512 → a ≡ length (number_bytes id) → b ≡ length (number_bytes n) → (a + b + n ≡ value_length true id n) × (a + b + n < 1024)
+pub is_due : (id n a b : ℕ) → a ≡ length (number_bytes id) → b ≡ length (number_bytes n) → a + b + n ≡ value_length true id n
 unfolding value_length
-is_due id n a b h e f = (rw (e, f), omega (arith, number_size_lem id, number_size_lem n))
+is_due id n a b e f = rw (e, f)
 
 -- a value that is sent if something holds
 value_length_lem : (id n : ℕ) (due : Bool) (v : List ℕ) → length v ≡ n → length (parameter_if id (pick due (some v) none)) ≡ value_length due id n
@@ -61,7 +60,7 @@ optional_length_lem id (Some x) = value_length_lem id _ true (number_bytes x) re
 
 cid_length_at : (id : ℕ) (o : OptionalConnectionId) → formed_optional_cid o ≡ true → length (parameter_if id (cid_out o)) ≡ cid_length id o
 unfolding cid_out formed_optional_cid
-cid_length_at id o h = value_length_lem id o.cid.len o.present (cid_bytes o.cid) (cid_length_lem o.cid (cid_facts o.cid (all_at _ h 0)))
+cid_length_at id o h = value_length_lem id o.value.len o.present (cid_bytes o.value) (cid_length_lem o.value (cid_facts o.value (all_at _ h 0)))
 
 reserved_length_lem : (x : ReservedTransportParameter) → formed_reserved x ≡ true → length (reserved_bytes x) ≡ reserved_length x
 unfolding reserved_bytes formed_reserved

@@ -5,7 +5,7 @@ use Rattle.varint.specs.Number.{number_bytes}
 use Rattle.catalogue.specs.Catalogue.{defaults, id_at}
 use Rattle.record.specs.declared.TransportParameters.{TransportParameters}
 use Rattle.record.specs.Optional.{OptionalNumber}
-use Rattle.record.specs.declared.OptionalConnectionId.{OptionalConnectionId}
+use Rattle.record.specs.Optional.{OptionalConnectionId}
 use Rattle.record.specs.declared.PreferredAddress.{PreferredAddress}
 use Rattle.record.specs.declared.ReservedTransportParameter.{ReservedTransportParameter}
 use Rattle.record.specs.Record.{is_present, least}
@@ -27,7 +27,7 @@ abbrev pub optional_length : ℕ → OptionalNumber → ℕ
 optional_length id o = number_length (is_present o) id (least o)
 
 abbrev pub cid_length : ℕ → OptionalConnectionId → ℕ
-cid_length id o = value_length o.present id o.cid.len
+cid_length id o = value_length o.present id o.value.len
 
 abbrev pub reserved_length : ReservedTransportParameter → ℕ
 reserved_length x = value_length x.present x.id x.payload_len

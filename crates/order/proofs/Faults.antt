@@ -6,7 +6,9 @@
 --     none_permutation    nothing is wrong exactly with a permutation
 --     first_fault         what the position says (specs/FirstFault.antt)
 --     at_fault, one_more, met_more, at_end    a pass: an entry that is at fault, one that is not, and the end
---     at_outside, too_short, long_enough      its answers: an entry that is no place, and the end with and without entries missing
+--     at_outside, at_repeat, too_short, long_enough    its answers: an entry that is no place or repeats one, and the end with and without entries
+--                                                      missing
+--     next_met            one more entry is met
 use Prim.Native.Nat.{ℕ, zero, suc, ◌+◌, ◌≤◌, ◌<◌}
 use mathlib.Core.Path.{◌≡◌, refl, ap, sym, ◌∙◌}
 use mathlib.Core.List.{List, [], ◌∷◌, ◌++◌}
@@ -142,7 +144,7 @@ front_distinct os (suc n) h =
     at false e = rw (le-leb places (get_or os n 0) (ltb-false _ _ e))
 
 -- so there are at most 21 of them
-pub turns : (os : List ℕ) (n : ℕ) → n ≤ length os → first_below n (faulty os) ≡ none → n ≤ places
+turns : (os : List ℕ) (n : ℕ) → n ≤ length os → first_below n (faulty os) ≡ none → n ≤ places
 turns os n h e = let d : distinct (take n os) ≡ true = sym (front_distinct os n h) ∙ ap is_none e in omega (arith, at_most (take n os) d, length-take-le n os h)
 
 -- NOTHING IS WRONG
@@ -291,16 +293,16 @@ abbrev pub Met : ℕ → List ℕ → Type 0
 Met m os = (q : ℕ) → marked m q ≡ member q os
 
 module _ (os : List ℕ) (i : ℕ) (e : first_below i (faulty os) ≡ none) where
-  pub at_fault : i < length os → faulty os i ≡ true → some i ≡ order_fault os
+  at_fault : i < length os → faulty os i ≡ true → some i ≡ order_fault os
   at_fault l f = sym (by_entry os (suc i) i (omega arith) (here (faulty os) i e f))
 
-  pub one_more : faulty os i ≡ false → first_below (i + 1) (faulty os) ≡ none
+  one_more : faulty os i ≡ false → first_below (i + 1) (faulty os) ≡ none
   one_more f = rw (add-one i) (past (faulty os) i e f)
 
-  pub at_end : length os ≡ i → pick (ltb i places) (some (length os)) none ≡ order_fault os
+  at_end : length os ≡ i → pick (ltb i places) (some (length os)) none ≡ order_fault os
   at_end s = rw (← s) (sym (by_end os (rw (← s) at e)))
 
-pub met_more : (os : List ℕ) (i m : ℕ) → i < length os → get_or os i 0 < places → Met m (take i os)
+met_more : (os : List ℕ) (i m : ℕ) → i < length os → get_or os i 0 < places → Met m (take i os)
     → Met (pick (ltb (get_or os i 0) 32) (mark m (get_or os i 0)) m) (take (i + 1) os)
 met_more os i m l p f q = rw (add-one i, take-suc os i 0 l, member_last q (get_or os i 0) (take i os), lt-ltb (get_or os i 0) 32 (omega arith)) (go (get_or os i 0) (eqb q (get_or os i 0)) refl)
   where
@@ -312,6 +314,16 @@ met_more os i m l p f q = rw (add-one i, take-suc os i 0 l, member_last q (get_o
 module _ (os : List ℕ) (i : ℕ) (e : first_below i (faulty os) ≡ none) where
   pub at_outside : i < length os → places ≤ get_or os i 0 → some i ≡ order_fault os
   at_outside l p = at_fault os i e l (rw (le-leb places (get_or os i 0) p))
+
+  module _ (m : ℕ) (f : Met m (take i os)) (l : i < length os) (p : get_or os i 0 < places) where
+    pub at_repeat : marked m (get_or os i 0) ≡ true → some i ≡ order_fault os
+    at_repeat k = let r : repeats os i ≡ true = sym (f (get_or os i 0)) ∙ k in at_fault os i e l (rw (lt-leb places (get_or os i 0) p, r))
+
+    pub next_met : marked m (get_or os i 0) ≡ false
+        → (first_below (i + 1) (faulty os) ≡ none) × Met (pick (ltb (get_or os i 0) 32) (mark m (get_or os i 0)) m) (take (i + 1) os)
+    next_met k =
+        let r : repeats os i ≡ false = sym (f (get_or os i 0)) ∙ k in
+        (one_more os i e (rw (lt-leb places (get_or os i 0) p, r)), met_more os i m l p f)
 
   pub too_short : i ≡ length os → i < places → some (length os) ≡ order_fault os
   too_short s l = rw (lt-ltb i places l) at (at_end os i e (sym s))

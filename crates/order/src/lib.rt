@@ -7,28 +7,22 @@ ghost use Rattle.order.specs.Answer.{fault_position};
 
 use catalogue::PLACES;
 use marks::{is_marked, with_mark};
-use words::size;
 
 // What is wrong with an order: the position, from 0, of the first entry that is no place or repeats an earlier one; the length if entries are only
 // missing; or nothing: it is a permutation of the places. One pass from the front, in which the places met are marked. It ends within the first 22 entries: no more than 21 have marks of their own.
-#[tactic(auto, using(crate::proofs::Faults::at_outside, crate::proofs::Faults::too_short, crate::proofs::Faults::long_enough))]
+#[tactic(auto, using(crate::proofs::Faults::too_short, crate::proofs::Faults::long_enough))]
 pub fn order_fault(order: &[u8]) -> Option<usize>
     ensures { fault_position result ≡ order_fault order.now }
 {
     let mut met: u32 = 0;
-    let mut i: usize = 0;
-    while i < order.len() {
-        let place = size(order[i]);
-        if PLACES <= place {
-            return Some(i);
-        }
-        if is_marked(met, place) {
+    for (i, &entry) in order.iter().enumerate() {
+        let place = usize::from(entry);
+        if PLACES <= place || is_marked(met, place) {
             return Some(i);
         }
         met = with_mark(met, place);
-        i += 1;
     }
-    if i < PLACES {
+    if order.len() < PLACES {
         return Some(order.len());
     }
     None

@@ -22,10 +22,9 @@ use Rattle.front.specs.Parameter.{read_parameter, located}
 use Rattle.front.proofs.Position.{within, cut_out, located_front}
 use Rattle.value.specs.Value.{kept_of, check_kind, receive_value}
 use Rattle.value.proofs.Checks.{taken}
-use Rattle.index.specs.Index.{Found, nothing, keep, note, between, index_in, index_from, Sound}
+use Rattle.index.specs.Index.{Found, nothing, keep, note, between, index_in, index_from, value_at, Sound}
 use Rattle.index.proofs.Sound.{initial_at, start_sound, keep_sound, start_kept, length_kept}
 use Rattle.reader.specs.Reading.{receive, step, parse}
-use Rattle.reader.specs.Kept.{value_at}
 use Rattle.reader.proofs.Run.{parse_nil, parse_front, upd_here, upd_there}
 
 pub record Agrees (s : List ℕ) (f : Found) (l : Values) : Type 0 where

@@ -1,30 +1,25 @@
 -- Laws of the parts that the record is built of. Assumes nothing.
-use Prim.Native.Nat.{ℕ, zero, suc, ◌+◌, ◌-◌, ◌*◌, ◌≤◌}
+use Prim.Native.Nat.{ℕ, ◌+◌, ◌-◌, ◌*◌, ◌≤◌}
 use mathlib.Core.Path.{◌≡◌, refl, ap, sym, ◌∙◌}
-use mathlib.Core.List.{List, ◌∷◌}
+use mathlib.Core.List.{List, [], ◌∷◌}
 use mathlib.Core.Option.{some}
-use mathlib.Core.Bool.{Bool, true, not}
+use mathlib.Core.Bool.{true}
 use native.Mathlib.Omega.{arith}
-use lib.ListN.{length, get_or, take, drop, length-take, length-drop}
-use lib.Seq.{drop-cons, take_all, length-take-le}
+use lib.ListN.{length, take, drop, length-take, length-drop}
+use lib.Seq.{take_all, length-take-le}
 use borrow.Author.Tests.{leb-true, eqb-true}
 use Rattle.std.specs.Prelude.{Result as Answer, Ok, IsOk}
 use Rattle.refusal.specs.declared.Refusal.{Refusal}
 use Rattle.refusal.specs.Answer.{outcome_of}
 use Rattle.refusal.proofs.Laws.{all_at}
-use Rattle.words.specs.Words.{zeros, elements}
+use Rattle.std.specs.List.{slice_index}
+use Rattle.words.specs.Words.{value_from}
 use Rattle.connection_id.specs.ConnectionId.{cid_of, make_cid}
 use Rattle.connection_id.specs.declared.ConnectionId.{ConnectionId}
 use Rattle.connection_id.proofs.Answers.{made}
-use Rattle.record.specs.declared.SocketAddrV4.{SocketAddrV4}
-use Rattle.record.specs.declared.SocketAddrV6.{SocketAddrV6}
+use Rattle.record.specs.Optional.{SocketAddrV4, SocketAddrV6}
 use Rattle.catalogue.specs.Catalogue.{address, fits, id_length}
-use Rattle.record.specs.Values.{family_in, to_v4, to_v6, address_in}
-
-pub taken : (n i : ℕ) (s : List ℕ) → i + n ≤ length s → take n (drop i s) ≡ elements n i s
-unfolding elements
-taken zero i s h = refl
-taken (suc n) i s h = rw (drop-cons s i 0 (omega arith)) (ap (λ l. get_or s i 0 ∷ l) (taken n (suc i) s (omega arith)))
+use Rattle.record.specs.Values.{family_in, of_address, to_v4, to_v6, address_in}
 
 pub made_ok : (r : Answer ConnectionId Refusal) (v : List ℕ) → outcome_of r ≡ make_cid v → length v ≤ 20 → IsOk r
 made_ok r v e h = rw (made r v e h) refl
@@ -32,22 +27,12 @@ made_ok r v e h = rw (made r v e h) refl
 pub cid_new : (r : Answer ConnectionId Refusal) (c : ConnectionId) (v : List ℕ) → outcome_of r ≡ make_cid v → length v ≤ 20 → r ≡ Ok c → c ≡ cid_of v
 cid_new r c v e h q = let x : Ok c ≡ Ok (cid_of v) = sym q ∙ made r v e h in cc
 
--- FAMILIES of an address
-pub v4_built : (v : List ℕ) (z : Bool) (port : ℕ) → length v ≡ 6 → z ≡ zeros v → port ≡ get_or v 4 0 * 256 + get_or v 5 0
-    → record { present = not z; ip = elements 4 0 v; port = port } ≡ to_v4 (family_in 4 v)
-unfolding family_in elements
-v4_built v z port l e p =
-    let d : drop 4 v ≡ elements 2 4 v = sym (take_all 2 (drop 4 v) (rw length-drop (omega arith))) ∙ taken 2 4 v (omega arith) in
-    let q : port ≡ (0 * 256 + get_or v 4 0) * 256 + get_or v 5 0 = p ∙ omega arith in
-    rw (e, q, ← taken 4 0 v (omega arith), d)
-
-pub v6_built : (v ip : List ℕ) (z : Bool) (port : ℕ) → length v ≡ 18 → ip ≡ take 16 v → z ≡ zeros v → port ≡ get_or v 16 0 * 256 + get_or v 17 0
-    → record { present = not z; ip = ip; port = port } ≡ to_v6 (family_in 16 v)
-unfolding family_in elements
-v6_built v ip z port l i e p =
-    let d : drop 16 v ≡ elements 2 16 v = sym (take_all 2 (drop 16 v) (rw length-drop (omega arith))) ∙ taken 2 16 v (omega arith) in
-    let q : port ≡ (0 * 256 + get_or v 16 0) * 256 + get_or v 17 0 = p ∙ omega arith in
-    rw (e, q, i, d)
+-- a port, high byte first
+pub port_is : (w : List ℕ) → length w ≡ 2 → slice_index w 0 * 256 + slice_index w 1 ≡ value_from 0 w
+port_is [] h = absurd (omega arith)
+port_is (a ∷ []) h = absurd (omega arith)
+port_is (a ∷ b ∷ []) h = omega arith
+port_is (a ∷ b ∷ c ∷ w) h = absurd (omega arith)
 
 -- a value that fits an address
 pub address_facts : (v : List ℕ) → fits address v ≡ true → (41 ≤ length v) × (id_length v ≤ 20) × (length v ≡ 41 + id_length v)
@@ -70,12 +55,12 @@ module _ (v : List ℕ) (f : fits address v ≡ true) where
       let e : length v - (25 + id_length v) ≡ 16 = omega arith in
       length-take-le _ (drop (25 + id_length v) v) l ∙ e
 
-  pub address_built : (v4 : SocketAddrV4) (v6 : SocketAddrV6) (c : ConnectionId) (t : List ℕ) → v4 ≡ to_v4 (family_in 4 (take 6 v))
-      → v6 ≡ to_v6 (family_in 16 (take 18 (drop 6 v))) → c ≡ cid_of (take (25 + id_length v - 25) (drop 25 v))
+  pub address_built : (v4 : SocketAddrV4) (v6 : SocketAddrV6) (c : ConnectionId) (t : List ℕ) → of_address v4 ≡ family_in 4 (take 6 v)
+      → of_address v6 ≡ family_in 16 (take 18 (drop 6 v)) → c ≡ cid_of (take (25 + id_length v - 25) (drop 25 v))
       → t ≡ take (length v - (25 + id_length v)) (drop (25 + id_length v) v)
       → record { present = true; address_v4 = v4; address_v6 = v6; connection_id = c; stateless_reset_token = record { bytes = t } } ≡ address_in (some v)
   unfolding address_in
   address_built v4 v6 c t e4 e6 ec et =
       let n : 25 + id_length v - 25 ≡ id_length v = omega arith in
       let d : take (length v - (25 + id_length v)) (drop (25 + id_length v) v) ≡ drop (25 + id_length v) v = take_all (length v - (25 + id_length v)) (drop (25 + id_length v) v) (rw length-drop (omega arith)) in
-      rw (e4, e6, ec, et, n, d)
+      rw (ap to_v4 e4, ap to_v6 e6, ec, et, n, d)

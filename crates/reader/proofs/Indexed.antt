@@ -6,30 +6,30 @@ use mathlib.Core.List.{List, [], ◌∷◌}
 use mathlib.Core.Option.{Option, none, some}
 use mathlib.Core.Bool.{Bool, true, false}
 use native.Mathlib.Omega.{arith}
-use lib.ListN.{length, get_or, take, drop, length-drop}
-use lib.Seq.{length-take-le, get_or-take, get_or-drop}
+use lib.ListN.{length, get_or, take, drop}
 use Rattle.refusal.specs.Outcome.{Result, accepted, refused, pick, and_then, all}
 use Rattle.refusal.specs.Number.{number_of}
 use Rattle.refusal.proofs.Laws.{inverted, picked}
 use Rattle.words.specs.Words.{elements}
 use Rattle.connection_id.specs.ConnectionId.{cid_of}
 use Rattle.marks.specs.Mark.{marked}
-use Rattle.catalogue.specs.Catalogue.{Kind, number, flag, cid, token, address, kinds, other_kinds, kind_at, defaults, fits}
+use Rattle.catalogue.specs.Catalogue.{Kind, number, flag, cid, token, address, kinds, other_kinds, kind_at, defaults}
 use Rattle.catalogue.proofs.Places.{number_kind}
 use Rattle.std.specs.Prelude.{None, Some}
 use Rattle.record.specs.declared.TransportParameters.{TransportParameters}
 use Rattle.record.proofs.KindLaws.{Fits, IfSome}
 use Rattle.record.specs.Values.{Bytes, Values, no_values, is_some, number_in, optional_in, cid_in, token_in, address_in, numbers_in, record_of}
-use Rattle.record.specs.Record.{least, default_record}
+use Rattle.record.specs.Record.{least}
 use Rattle.rules.specs.declared.Side.{Side}
 use Rattle.rules.specs.Rules.{value_rules}
 use Rattle.front.specs.declared.Fault.{Fault}
 use Rattle.front.specs.declared.Fault.TheVariants.{Illegal}
 use Rattle.front.specs.Answer.{refused_with, numbered}
-use Rattle.index.specs.Index.{Found, nothing, index_from, id_len, kept_rules, indexed, Sound}
+use Rattle.index.specs.Index.{Found, nothing, index_from, id_len, kept_rules, indexed, value_at, optional_at, Sound}
+use Rattle.index.proofs.Parts.{address_place, id_there, id_none}
 use Rattle.reader.specs.Reading.{parse, judge, read}
-use Rattle.reader.specs.Kept.{value_at, optional_at, record_from, KeptAt}
-use Rattle.reader.proofs.Built.{address_facts, id_len_lem}
+use Rattle.reader.specs.Kept.{record_from, FitsIfAny}
+use Rattle.reader.proofs.Built.{id_len_lem}
 use Rattle.reader.proofs.Grow.{grown}
 use Rattle.reader.proofs.Agree.{Agrees, Related, related}
 
@@ -49,10 +49,14 @@ token_no e = let z : ◌≡◌ {A = ℕ} 0 1 = cc in omega arith
 pub address_no : address ≡ number → ⊥
 address_no e = let z : ◌≡◌ {A = ℕ} 0 1 = cc in omega arith
 
--- what is kept at a place
-pub kept_at : (k : Kind) (s : List ℕ) (m : ℕ) (kept lens : List ℕ) → Sound s (m, kept, lens) → (p : ℕ) → kind_at p ≡ k → (k ≡ number → ⊥) → KeptAt k s m kept lens p
-kept_at k s m kept lens i p e n =
-    record { long = i.long; long_lens = i.long_lens; within = i.within p (no_number p k e n); fit = λ h. rw e at (i.fit p (no_number p k e n) h) }
+-- the value at a place that holds no number fits
+pub kept_fits : (k : Kind) (s : List ℕ) (f : Found) → Sound s f → (p : ℕ) → kind_at p ≡ k → (k ≡ number → ⊥) → FitsIfAny k (value_at s f p)
+unfolding value_at
+kept_fits k s f i p e n = go (marked f.0 p) refl
+  where
+    go : (b : Bool) → marked f.0 p ≡ b → FitsIfAny k (pick b (some (take (get_or f.2 p 0) (drop (get_or f.1 p 0) s))) none)
+    go false m = tt
+    go true m = rw e at (i.fit p (no_number p k e n) m)
 
 -- OPTIONAL VALUES
 optional_is : (o : Option (List ℕ)) (b : Bool) (x : ℕ) → is_some o ≡ b → x ≡ number_in 0 o → pick b (Some x) None ≡ optional_in o
@@ -81,29 +85,12 @@ numbers_from_lem (d ∷ ds) kept l k h =
     rw (a, ih λ p x y. let e : p - k ≡ suc (p - suc k) = omega arith in h p (omega arith) (omega arith) ∙ rw e)
 
 -- the length byte of an address's connection ID
-module _ (s : List ℕ) (f : Found) (i : Sound s f) where
-  address_kind : kind_at 15 ≡ address
-  unfolding kind_at kinds other_kinds
-  address_kind = refl
-
-  span : List ℕ
-  span = take (get_or f.2 15 0) (drop (get_or f.1 15 0) s)
-
-  within : get_or f.1 15 0 + get_or f.2 15 0 ≤ length s
-  within = i.within 15 (no_number 15 address address_kind address_no)
-
-  id_is : id_len s f ≡ (address_in (value_at s f 15)).connection_id.len
-  unfolding id_len value_at
-  id_is = go (marked f.0 15) refl
-    where
-      go : (b : Bool) → marked f.0 15 ≡ b
-          → pick b (get_or s (get_or f.1 15 0 + 24) 0) 0 ≡ (address_in (pick b (some (take (get_or f.2 15 0) (drop (get_or f.1 15 0) s))) none)).connection_id.len
-      go false e = unfold address_in cid_of in refl
-      go true e =
-          let t : fits address (take (get_or f.2 15 0) (drop (get_or f.1 15 0) s)) ≡ true = rw address_kind at (i.fit 15 (no_number 15 address address_kind address_no) e) in
-          let n : length (take (get_or f.2 15 0) (drop (get_or f.1 15 0) s)) ≡ get_or f.2 15 0 = length-take-le _ _ (rw length-drop (omega (arith, within))) in
-          let h : 24 < get_or f.2 15 0 = omega (arith, (address_facts _ t).0) in
-          sym (get_or-take _ (drop (get_or f.1 15 0) s) 24 0 h ∙ get_or-drop (get_or f.1 15 0) s 24 0) ∙ sym (id_len_lem _ t)
+id_is : (s : List ℕ) (f : Found) → Sound s f → id_len s f ≡ (address_in (value_at s f 15)).connection_id.len
+id_is s f i = go (value_at s f 15) refl (kept_fits address s f i 15 address_place address_no)
+  where
+    go : (o : Option (List ℕ)) → value_at s f 15 ≡ o → FitsIfAny address o → id_len s f ≡ (address_in o).connection_id.len
+    go none e t = sym (id_none s f i (sym e)) ∙ (unfold address_in cid_of in refl)
+    go (some v) e t = sym (id_there s f i v (sym e)).1 ∙ sym (id_len_lem v t)
 
 module _ (s : List ℕ) (f : Found) (l : Values) (i : Sound s f) (g : Agrees s f l) where
   optional_same : (p : ℕ) → kind_at p ≡ number → get_or defaults p 0 ≡ 0 → optional_at f p ≡ optional_in (l p)

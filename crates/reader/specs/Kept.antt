@@ -1,22 +1,12 @@
 -- The record of what is kept of an extension.
-use Rattle.std.specs.Prelude.{ℕ, ◌+◌, ◌≤◌, ◌≡◌, List, true, length, get_or, take, drop}
+use Rattle.std.specs.Prelude.{ℕ, ◌≡◌, List, true}
 use Rattle.std.proofs.Math.Option.{Option, none, some}
-use Rattle.refusal.specs.Outcome.{pick}
 use Rattle.words.specs.Words.{elements}
 use Rattle.marks.specs.Mark.{marked}
-use Rattle.catalogue.specs.Catalogue.{Kind, places, fits}
+use Rattle.catalogue.specs.Catalogue.{Kind, fits}
 use Rattle.record.specs.declared.TransportParameters.{TransportParameters}
-use Rattle.record.specs.Optional.{OptionalNumber}
-use Rattle.std.specs.Prelude.{None, Some}
 use Rattle.record.specs.Values.{cid_in, token_in, address_in, no_reserved, no_order}
-use Rattle.index.specs.Index.{Found}
-
--- the value at a place that holds no number
-unfoldable pub value_at : List ℕ → Found → ℕ → Option (List ℕ)
-value_at s f p = pick (marked f.0 p) (some (take (get_or f.2 p 0) (drop (get_or f.1 p 0) s))) none
-
-abbrev pub optional_at : Found → ℕ → OptionalNumber
-optional_at f p = pick (marked f.0 p) (Some (get_or f.1 p 0)) None
+use Rattle.index.specs.Index.{Found, value_at, optional_at}
 
 unfoldable pub record_from : List ℕ → Found → TransportParameters
 record_from s f =
@@ -35,9 +25,7 @@ record_from s f =
       write_order = no_order;
     }
 
--- what is kept at a place: positions within the input, and a value that fits
-pub record KeptAt (k : Kind) (s : List ℕ) (m : ℕ) (kept lens : List ℕ) (p : ℕ) : Type 0 where
-  pub long : length kept ≡ places
-  pub long_lens : length lens ≡ places
-  pub within : get_or kept p 0 + get_or lens p 0 ≤ length s
-  pub fit : marked m p ≡ true → fits k (take (get_or lens p 0) (drop (get_or kept p 0) s)) ≡ true
+-- a value of the kind, or none
+abbrev pub FitsIfAny : Kind → Option (List ℕ) → Type 0
+FitsIfAny k none = Unit {0}
+FitsIfAny k (some v) = fits k v ≡ true

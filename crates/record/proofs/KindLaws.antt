@@ -25,8 +25,8 @@ use Rattle.connection_id.proofs.Laws.{Cid, cid_facts, cid_length_lem, cid_of_lem
 use Rattle.words.proofs.Laws.{zeros_are}
 use Rattle.record.specs.Optional.{OptionalNumber}
 use Rattle.std.specs.Prelude.{None, Some}
-use Rattle.record.specs.declared.OptionalConnectionId.{OptionalConnectionId}
-use Rattle.record.specs.declared.OptionalResetToken.{OptionalResetToken}
+use Rattle.record.specs.Optional.{OptionalConnectionId}
+use Rattle.record.specs.Optional.{OptionalResetToken}
 use Rattle.catalogue.specs.Catalogue.{Kind, number, flag, cid, token, fits, fills, illegal, parameter, parameter_if, widest}
 use Rattle.record.specs.Values.{Bytes, is_some, value, number_in, number_out, optional_in, optional_out, flag_out, cid_in, cid_out, token_of, token_in, token_out}
 use Rattle.record.specs.Record.{formed_optional, formed_optional_cid, formed_token, formed_optional_token}
@@ -164,18 +164,18 @@ flag_short (some (b ∷ v)) f id = let z : suc (length v) ≡ 0 = eqb-true (suc 
 -- connection IDs
 pub cid_back : (o : OptionalConnectionId) → formed_optional_cid o ≡ true → cid_in (cid_out o) ≡ o
 unfolding cid_in cid_out formed_optional_cid
-cid_back o h = go o.present o.cid (all_at _ h 0) (all_at _ h 1)
+cid_back o h = go o.present o.value (all_at _ h 0) (all_at _ h 1)
   where
-    go : (b : Bool) (c : ConnectionId) → formed_cid c ≡ true → (b || eqb c.len 0) ≡ true → cid_in (pick b (some (cid_bytes c)) none) ≡ record { present = b; cid = c }
+    go : (b : Bool) (c : ConnectionId) → formed_cid c ≡ true → (b || eqb c.len 0) ≡ true → cid_in (pick b (some (cid_bytes c)) none) ≡ record { present = b; value = c }
     go true c k n = rw (cid_of_lem c k)
     go false c k n = rw (cid_none c k (eqb-true c.len 0 n))
 
 pub cid_sent : (F : Type 0) (o : OptionalConnectionId) → formed_optional_cid o ≡ true → IfSome (Sound F cid) (cid_out o)
 unfolding cid_out formed_optional_cid fits illegal widest
-cid_sent F o h = go o.present (cid_facts o.cid (all_at _ h 0))
+cid_sent F o h = go o.present (cid_facts o.value (all_at _ h 0))
   where
-    go : (b : Bool) → Cid o.cid → IfSome (Sound F cid) (pick b (some (cid_bytes o.cid)) none)
-    go true k = let e = cid_length_lem o.cid k in record { legal = λ _. refl; fit = le-leb (length (cid_bytes o.cid)) 20 (omega (arith, k.within)); small = omega (arith, k.within) }
+    go : (b : Bool) → Cid o.value → IfSome (Sound F cid) (pick b (some (cid_bytes o.value)) none)
+    go true k = let e = cid_length_lem o.value k in record { legal = λ _. refl; fit = le-leb (length (cid_bytes o.value)) 20 (omega (arith, k.within)); small = omega (arith, k.within) }
     go false k = tt
 
 pub cid_formed : (o : Option (List ℕ)) → IfSome (Fits cid) o → formed_optional_cid (cid_in o) ≡ true
@@ -191,9 +191,9 @@ cid_short (some v) f id = rw (cid_same v) (omega arith)
 -- tokens
 pub token_back : (o : OptionalResetToken) → formed_optional_token o ≡ true → token_in (token_out o) ≡ o
 unfolding token_in token_out formed_optional_token formed_token
-token_back o h = go o.present o.token.bytes (eqb-true _ _ (all_at _ h 0)) (all_at _ h 1)
+token_back o h = go o.present o.value.bytes (eqb-true _ _ (all_at _ h 0)) (all_at _ h 1)
   where
-    go : (b : Bool) (t : List ℕ) → length t ≡ 16 → (b || zeros t) ≡ true → token_in (pick b (some t) none) ≡ record { present = b; token = token_of t }
+    go : (b : Bool) (t : List ℕ) → length t ≡ 16 → (b || zeros t) ≡ true → token_in (pick b (some t) none) ≡ record { present = b; value = token_of t }
     go true t n z = refl
     go false t n z = let e : t ≡ replicate 16 0 = zeros_are t z ∙ rw n in rw e
 
@@ -201,7 +201,7 @@ pub token_sent : (F : Type 0) (o : OptionalResetToken) → formed_optional_token
 unfolding token_out formed_optional_token formed_token fits illegal widest
 token_sent F o h = go o.present (eqb-true _ _ (all_at _ h 0))
   where
-    go : (b : Bool) → length o.token.bytes ≡ 16 → IfSome (Sound F token) (pick b (some o.token.bytes) none)
+    go : (b : Bool) → length o.value.bytes ≡ 16 → IfSome (Sound F token) (pick b (some o.value.bytes) none)
     go true n = record { legal = λ _. refl; fit = eq-eqb _ _ n; small = omega arith }
     go false n = tt
 

@@ -3,3 +3,4 @@ pub mod KindLaws
 pub mod Address
 pub mod Records
 pub mod Tests
+pub mod Defaults

@@ -17,7 +17,9 @@ use Rattle.words.specs.Words.{zeros, every}
 use Rattle.connection_id.specs.ConnectionId.{formed_cid}
 use Rattle.record.specs.declared.PreferredAddress.{PreferredAddress}
 use Rattle.record.specs.Values.{of_v4, of_v6}
-use Rattle.record.specs.Record.{formed_family, formed_token, formed_address}
+use Rattle.std.specs.Prelude.{None, Some}
+use Rattle.record.specs.Optional.{OptionalNumber}
+use Rattle.record.specs.Record.{least, formed_optional, formed_family, formed_token, formed_address}
 
 -- numbers joined bit by bit are below 2 ^ 62 exactly if both are
 pub or_below : (a b : ℕ) → ltb (bit_or a b) bound ≡ (ltb a bound && ltb b bound)
@@ -46,6 +48,12 @@ at_most x = go (ltb x bound) refl
     go : (t : Bool) → ltb x bound ≡ t → leb x 4611686018427387903 ≡ t
     go true e = le-leb x 4611686018427387903 (omega (arith, ltb-true x bound e))
     go false e = lt-leb x 4611686018427387903 (omega (arith, ltb-false x bound e))
+
+-- 0 for a number that is absent
+pub optional_below : (o : OptionalNumber) → leb (least o) 4611686018427387903 ≡ formed_optional o
+unfolding formed_optional
+optional_below None = refl
+optional_below (Some x) = at_most x
 
 -- what is left of a well-formed address, given what the type of its token says
 pub address_formed : (a : PreferredAddress) → length a.stateless_reset_token.bytes ≡ 16

@@ -9,9 +9,9 @@ use Rattle.record.specs.declared.TransportParameters.{TransportParameters}
 use Rattle.record.specs.Optional.{OptionalNumber}
 use Rattle.std.specs.Prelude.{is_some, None, Some}
 use Rattle.std.specs.Option.{unwrap_or}
-use Rattle.record.specs.declared.OptionalConnectionId.{OptionalConnectionId}
+use Rattle.record.specs.Optional.{OptionalConnectionId}
 use Rattle.record.specs.declared.ResetToken.{ResetToken}
-use Rattle.record.specs.declared.OptionalResetToken.{OptionalResetToken}
+use Rattle.record.specs.Optional.{OptionalResetToken}
 use Rattle.record.specs.declared.PreferredAddress.{PreferredAddress}
 use Rattle.record.specs.declared.ReservedTransportParameter.{ReservedTransportParameter}
 use Rattle.record.specs.declared.WriteOrder.{WriteOrder}
@@ -32,13 +32,13 @@ formed_optional None = true
 formed_optional (Some x) = ltb x bound
 
 unfoldable pub formed_optional_cid : OptionalConnectionId → Bool
-formed_optional_cid o = all (formed_cid o.cid ∷ (o.present || eqb o.cid.len 0) ∷ [])
+formed_optional_cid o = all (formed_cid o.value ∷ (o.present || eqb o.value.len 0) ∷ [])
 
 unfoldable pub formed_token : ResetToken → Bool
 formed_token t = eqb (length t.bytes) 16
 
 unfoldable pub formed_optional_token : OptionalResetToken → Bool
-formed_optional_token o = all (formed_token o.token ∷ (o.present || zeros o.token.bytes) ∷ [])
+formed_optional_token o = all (formed_token o.value ∷ (o.present || zeros o.value.bytes) ∷ [])
 
 -- an address of zeros and port 0
 abbrev pub unspecified : Family → Bool

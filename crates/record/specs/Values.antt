@@ -9,11 +9,11 @@ use Rattle.connection_id.specs.ConnectionId.{cid_of, cid_bytes}
 use Rattle.record.specs.declared.TransportParameters.{TransportParameters}
 use Rattle.record.specs.Optional.{OptionalNumber}
 use Rattle.std.specs.Prelude.{None, Some}
-use Rattle.record.specs.declared.OptionalConnectionId.{OptionalConnectionId}
+use Rattle.record.specs.Optional.{OptionalConnectionId}
 use Rattle.record.specs.declared.ResetToken.{ResetToken}
-use Rattle.record.specs.declared.OptionalResetToken.{OptionalResetToken}
-use Rattle.record.specs.declared.SocketAddrV4.{SocketAddrV4}
-use Rattle.record.specs.declared.SocketAddrV6.{SocketAddrV6}
+use Rattle.record.specs.Optional.{OptionalResetToken}
+use Rattle.record.specs.Optional.{SocketAddrV4, SocketAddrV6}
+use Rattle.record.specs.declared.SocketAddr.{SocketAddr}
 use Rattle.record.specs.declared.PreferredAddress.{PreferredAddress}
 use Rattle.record.specs.declared.ReservedTransportParameter.{ReservedTransportParameter}
 use Rattle.record.specs.declared.WriteOrder.{WriteOrder}
@@ -65,22 +65,22 @@ flag_out b = pick b (some []) none
 
 -- CONNECTION IDs
 unfoldable pub cid_in : Option (List ℕ) → OptionalConnectionId
-cid_in none = record { present = false; cid = cid_of [] }
-cid_in (some v) = record { present = true; cid = cid_of v }
+cid_in none = record { present = false; value = cid_of [] }
+cid_in (some v) = record { present = true; value = cid_of v }
 
 unfoldable pub cid_out : OptionalConnectionId → Option (List ℕ)
-cid_out o = pick o.present (some (cid_bytes o.cid)) none
+cid_out o = pick o.present (some (cid_bytes o.value)) none
 
 -- THE RESET TOKEN
 abbrev pub token_of : List ℕ → ResetToken
 token_of v = record { bytes = v }
 
 unfoldable pub token_in : Option (List ℕ) → OptionalResetToken
-token_in none = record { present = false; token = token_of (replicate 16 0) }
-token_in (some v) = record { present = true; token = token_of v }
+token_in none = record { present = false; value = token_of (replicate 16 0) }
+token_in (some v) = record { present = true; value = token_of v }
 
 unfoldable pub token_out : OptionalResetToken → Option (List ℕ)
-token_out o = pick o.present (some o.token.bytes) none
+token_out o = pick o.present (some o.value.bytes) none
 
 -- THE PREFERRED ADDRESS. A family: whether it is offered, its address and its port; not offered is all zero
 abbrev pub Family : Type 0
@@ -92,6 +92,9 @@ family_in n v = (not (zeros v), take n v, value_from 0 (drop n v))
 unfoldable pub family_out : Family → List ℕ
 family_out f = f.1 ++ bytes_of 2 f.2
 
+abbrev pub of_address : {n : ℕ} → SocketAddr n → Family
+of_address a = (a.present, a.ip, a.port)
+
 abbrev pub to_v4 : Family → SocketAddrV4
 to_v4 f = record { present = f.0; ip = f.1; port = f.2 }
 
@@ -99,10 +102,14 @@ abbrev pub to_v6 : Family → SocketAddrV6
 to_v6 f = record { present = f.0; ip = f.1; port = f.2 }
 
 abbrev pub of_v4 : SocketAddrV4 → Family
-of_v4 a = (a.present, a.ip, a.port)
+of_v4 a = of_address a
 
 abbrev pub of_v6 : SocketAddrV6 → Family
-of_v6 a = (a.present, a.ip, a.port)
+of_v6 a = of_address a
+
+-- one of n bytes that is not offered
+abbrev pub absent_address : (n : ℕ) → SocketAddr n
+absent_address n = record { present = false; ip = replicate n 0; port = 0 }
 
 unfoldable pub address_in : Option (List ℕ) → PreferredAddress
 address_in none =

@@ -5,12 +5,14 @@ use catalogue::{
     ACTIVE_CONNECTION_ID_LIMIT, GREASE_QUIC_BIT, INITIAL_MAX_DATA,
     INITIAL_MAX_STREAM_DATA_BIDI_LOCAL, INITIAL_MAX_STREAM_DATA_BIDI_REMOTE,
     INITIAL_MAX_STREAM_DATA_UNI, INITIAL_MAX_STREAMS_BIDI, INITIAL_MAX_STREAMS_UNI,
-    MAX_DATAGRAM_FRAME_SIZE, NAMES,
+    MAX_DATAGRAM_FRAME_SIZE,
 };
-use show::rows::{flag_at, value_at};
-use text::out::{Out, note, note_number};
-use text::{byte, word};
-use words::{big8, wide};
+use show::rows::{Kind, ROWS, Row, name_of};
+use std::fmt;
+use std::fmt::Display;
+use text::byte;
+use text::out::Out;
+use words::bytes_at;
 
 // What is remembered for 0-RTT, by place: what the definition of resumption looks at (`remembered`, `nothing_reduced`).
 const REMEMBERED: [usize; 9] = [
@@ -25,49 +27,53 @@ const REMEMBERED: [usize; 9] = [
     GREASE_QUIC_BIT,
 ];
 
-// What the image of a record says of one of these, as a number. A size that is absent is 0 there.
-fn counted(place: usize, image: &[u8]) -> u64 {
-    if place == GREASE_QUIC_BIT {
-        return wide(byte(image, flag_at(place), 0));
-    }
-    let at = value_at(place);
-    if image.len() < at {
-        return 0;
-    }
-    big8(&image[at..])
+// What the image of a record says of one of these.
+#[derive(Clone, Copy)]
+enum Limit {
+    Absent,
+    Number(u64),
+    Flag(bool),
 }
 
-// The same in words.
-fn note_counted(out: &mut Out, place: usize, image: &[u8]) {
-    let n = counted(place, image);
-    if place == GREASE_QUIC_BIT {
-        note(out, word(b"not set\nset", n as usize, b'\n'));
-        return;
+fn limit_in(row: Row, image: &[u8]) -> Limit {
+    let flag = row.flag_at().map(|at| byte(image, at, 0) == 1);
+    match (row.0, flag) {
+        (Kind::Flag, _) => Limit::Flag(flag == Some(true)),
+        (_, Some(false)) => Limit::Absent,
+        _ => Limit::Number(u64::from_be_bytes(bytes_at(image, row.value_at()))),
     }
-    if place == MAX_DATAGRAM_FRAME_SIZE && byte(image, flag_at(place), 0) == 0 {
-        note(out, b"absent");
-        return;
-    }
-    note_number(out, n);
 }
 
-// A limit that a record reduces: what it was, and what it is.
-fn note_limit(out: &mut Out, place: usize, new: &[u8], cached: &[u8]) {
-    note(out, word(&NAMES, place, b' '));
-    note(out, b": was ");
-    note_counted(out, place, cached);
-    note(out, b", now ");
-    note_counted(out, place, new);
-    note(out, b"\n");
+impl Limit {
+    // Less is reduced: what is absent is as little as 0, and a flag that is set is more than one that is not.
+    fn size(self) -> u64 {
+        match self {
+            Limit::Absent => 0,
+            Limit::Number(n) => n,
+            Limit::Flag(is_set) => u64::from(is_set),
+        }
+    }
 }
 
-// The limits that a record reduces, by its image and that of the remembered one.
+impl Display for Limit {
+    fn fmt<W: fmt::Write>(&self, f: &mut fmt::Formatter<W>) -> fmt::Result {
+        match *self {
+            Limit::Absent => write!(f, "absent"),
+            Limit::Number(n) => write!(f, "{n}"),
+            Limit::Flag(true) => write!(f, "set"),
+            Limit::Flag(false) => write!(f, "not set"),
+        }
+    }
+}
+
+// The limits that a record reduces, by its image and that of the remembered one: what each was, and what it is.
 pub fn note_reduced(out: &mut Out, new: &[u8], cached: &[u8]) {
-    let places = REMEMBERED;
-    for i in 0..9 {
-        let place = places[i];
-        if counted(place, new) < counted(place, cached) {
-            note_limit(out, place, new, cached);
+    for (place, row) in ROWS.iter().enumerate() {
+        let now = limit_in(*row, new);
+        let was = limit_in(*row, cached);
+        if REMEMBERED.contains(&place) && now.size() < was.size() {
+            let name = name_of(place);
+            out.note(format_args!("{name}: was {was}, now {now}\n"));
         }
     }
 }

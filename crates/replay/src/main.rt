@@ -3,14 +3,16 @@
 // stored and bytes left alone.
 #![tactic(auto)]
 
+ghost use Rattle.std.specs.Prelude.{◌<◌};
+
+mod operation;
+
+use operation::{OPERATIONS, Operation};
 use std::io;
 use std::io::{Read, Stdin};
 
 // The longest input or output of an entry.
 const MOST: usize = 512;
-
-// How many operations there are.
-const OPERATIONS: usize = 17;
 
 // What stands in an output and in a number before a call.
 const FILL: u8 = 0xa7;
@@ -20,7 +22,8 @@ const UNTOUCHED: u64 = 0xa7a7a7a7a7a7a7a7;
 // The head of an entry: a call, what is due, and where each part of what follows ends.
 #[derive(Clone, Copy)]
 struct Head {
-    op: u8,
+    // the number of the operation
+    operation: usize,
     code: u8,
     x: usize,
     y: usize,
@@ -32,36 +35,26 @@ struct Head {
     number_due: u64,
 }
 
-fn wide(b: u8) -> u64 {
-    b as u64
-}
-
 // The number of eight bytes from `at` on, high byte first; 0 where there are none.
 fn eight(b: &[u8], at: usize) -> u64 {
-    if b.len() < 8 {
+    let mut bytes = [0u8; 8];
+    let Some(rest) = b.get(at..) else {
         return 0;
-    }
-    if b.len() - 8 < at {
+    };
+    let Some(first) = rest.get(..8) else {
         return 0;
-    }
-    let high = (wide(b[at]) << 24)
-        | (wide(b[at + 1]) << 16)
-        | (wide(b[at + 2]) << 8)
-        | wide(b[at + 3]);
-    let low = (wide(b[at + 4]) << 24)
-        | (wide(b[at + 5]) << 16)
-        | (wide(b[at + 6]) << 8)
-        | wide(b[at + 7]);
-    (high << 32) | low
+    };
+    bytes.copy_from_slice(first);
+    u64::from_be_bytes(bytes)
 }
 
 fn two(high: u8, low: u8) -> usize {
-    ((high as usize) << 8) | (low as usize)
+    usize::from(u16::from_be_bytes([high, low]))
 }
 
 fn head_of(b: &[u8; 32]) -> Head {
     Head {
-        op: b[0],
+        operation: usize::from(b[0]),
         code: b[1],
         x: two(b[2], b[3]),
         y: two(b[4], b[5]),
@@ -76,17 +69,11 @@ fn head_of(b: &[u8; 32]) -> Head {
 
 // A part of a slice, or all of it where there is no such part.
 fn part<'a>(b: &'a [u8], from: usize, to: usize) -> &'a [u8] {
-    if b.len() < to {
-        return b;
-    }
-    if to < from {
-        return b;
-    }
-    &b[from..to]
+    b.get(from..to).unwrap_or(b)
 }
 
 // What a call gave: the refusal or 0; a count, a limit or a size; and the value that number_read gives.
-#[derive(Drop)]
+#[derive(Clone, Copy)]
 struct Called {
     code: u8,
     number: u64,
@@ -97,90 +84,64 @@ struct Called {
 fn storing(code: u8, number: u64) -> Called {
     Called {
         code,
-        number: stored(code, number),
+        number: stored(code == 0, number),
         value: UNTOUCHED,
     }
 }
 
-fn stored(code: u8, number: u64) -> u64 {
-    if code == 0 {
+// The number that is stored if it is to be; 0 if none is to be and none is.
+fn stored(is_due: bool, number: u64) -> u64 {
+    if is_due {
         return number;
     }
     if number == UNTOUCHED { 0 } else { u64::MAX }
 }
 
-fn low(x: u64) -> u8 {
-    (x % 256) as u8
+// A call that stores a count.
+fn counting<F: FnOnce(&mut usize) -> u8>(call: F) -> Called
+    requires { F.IsAlwaysCallable call }
+{
+    let mut count = UNTOUCHED as usize;
+    let code = call(&mut count);
+    storing(code, count as u64)
 }
 
-fn number_size(value: u64) -> Called {
-    let mut count = UNTOUCHED as usize;
-    let code = yuthpram::yuthpram_number_size(value, &mut count);
-    storing(code, count as u64)
+// A call that stores no number.
+fn plain(code: u8) -> Called {
+    Called {
+        code,
+        number: 0,
+        value: UNTOUCHED,
+    }
 }
 
 fn number_read(x: &[u8]) -> Called {
     let mut value = UNTOUCHED;
-    let mut count = UNTOUCHED as usize;
-    let code = yuthpram::yuthpram_number_read(x, &mut value, &mut count);
-    let c = storing(code, count as u64);
+    let c = counting(|count| yuthpram::yuthpram_number_read(x, &mut value, count));
     Called {
-        code,
+        code: c.code,
         number: c.number,
         value,
     }
-}
-
-fn number_write(value: u64, out: &mut [u8]) -> Called {
-    let mut count = UNTOUCHED as usize;
-    let code = yuthpram::yuthpram_number_write(value, out, &mut count);
-    storing(code, count as u64)
-}
-
-fn cid_read(x: &[u8], out: &mut [u8]) -> Called {
-    let mut count = UNTOUCHED as usize;
-    let code = yuthpram::yuthpram_cid_read(x, out, &mut count);
-    storing(code, count as u64)
-}
-
-fn cid_write(x: &[u8], out: &mut [u8]) -> Called {
-    let mut count = UNTOUCHED as usize;
-    let code = yuthpram::yuthpram_cid_write(x, out, &mut count);
-    storing(code, count as u64)
-}
-
-fn write(x: &[u8], out: &mut [u8]) -> Called {
-    let mut count = UNTOUCHED as usize;
-    let code = yuthpram::yuthpram_write(x, out, &mut count);
-    storing(code, count as u64)
-}
-
-fn length(x: &[u8]) -> Called {
-    let mut count = UNTOUCHED as usize;
-    let code = yuthpram::yuthpram_length(x, &mut count);
-    storing(code, count as u64)
 }
 
 // 6 comes with a position; 0 stores none.
 fn order_fault(x: &[u8]) -> Called {
     let mut position = UNTOUCHED as usize;
     let code = yuthpram::yuthpram_order_fault(x, &mut position);
-    let is_kept = if code == 0 { 1 } else { 0 };
     Called {
         code,
-        number: stored(is_kept, position as u64),
+        number: stored(code != 0, position as u64),
         value: UNTOUCHED,
     }
 }
 
 fn tidy(side: u8, x: &[u8], out: &mut [u8]) -> Called {
-    let mut count = UNTOUCHED as usize;
-    let code = yuthpram::yuthpram_tidy(side, x, out, &mut count);
-    storing(code, count as u64)
+    counting(|count| yuthpram::yuthpram_tidy(side, x, out, count))
 }
 
 fn tidy_twice(side: u8, x: &[u8], out: &mut [u8]) -> Called {
-    let mut once = [0u8; 512];
+    let mut once = [0u8; MOST];
     let first = tidy(side, x, &mut once);
     if first.code != 0 {
         return first;
@@ -194,218 +155,144 @@ fn issue_limit(x: &[u8]) -> Called {
     storing(code, limit)
 }
 
+// The settings are as many as eight bytes of `x` make.
 fn new(x: &[u8], cid: &[u8], draw: u64, payload: &[u8], order: &[u8], out: &mut [u8]) -> u8 {
-    let settings = [
-        eight(x, 0),
-        eight(x, 8),
-        eight(x, 16),
-        eight(x, 24),
-        eight(x, 32),
-        eight(x, 40),
-        eight(x, 48),
-        eight(x, 56),
-        eight(x, 64),
-        eight(x, 72),
-        eight(x, 80),
-        eight(x, 88),
-    ];
-    let n = x.len() / 8;
-    if 12 < n {
+    let mut settings = [0u64; 12];
+    for i in 0..12 {
+        settings[i] = eight(x, 8 * i);
+    }
+    let Some(given) = settings.get(..x.len() / 8) else {
         return 0;
-    }
-    yuthpram::yuthpram_new(&settings[0..n], cid, draw, payload, order, out)
+    };
+    yuthpram::yuthpram_new(given, cid, draw, payload, order, out)
 }
 
-// A call that stores no number.
-fn plain(code: u8) -> Called {
-    Called {
-        code,
-        number: 0,
-        value: UNTOUCHED,
+// What is handed to a call.
+#[derive(Clone, Copy)]
+struct Input<'a> {
+    number: u64,
+    x: &'a [u8],
+    y: &'a [u8],
+    z: &'a [u8],
+    w: &'a [u8],
+}
+
+fn call(operation: Operation, i: Input<'_>, out: &mut [u8]) -> Called {
+    let side = (i.number & 0xff) as u8;
+    match operation {
+        Operation::NumberSize => counting(|n| yuthpram::yuthpram_number_size(i.number, n)),
+        Operation::NumberRead => number_read(i.x),
+        Operation::NumberWrite => counting(|n| yuthpram::yuthpram_number_write(i.number, out, n)),
+        Operation::CidRead => counting(|n| yuthpram::yuthpram_cid_read(i.x, out, n)),
+        Operation::CidWrite => counting(|n| yuthpram::yuthpram_cid_write(i.x, out, n)),
+        Operation::Default => plain(yuthpram::yuthpram_default(out)),
+        Operation::Read => plain(yuthpram::yuthpram_read(side, i.x, out)),
+        Operation::Write => counting(|n| yuthpram::yuthpram_write(i.x, out, n)),
+        Operation::New => plain(new(i.x, i.y, i.number, i.z, i.w, out)),
+        Operation::Resumption => plain(yuthpram::yuthpram_validate_resumption_from(i.x, i.y)),
+        Operation::IssueLimit => issue_limit(i.x),
+        Operation::Check => plain(yuthpram::yuthpram_check(i.x, side)),
+        Operation::Tidy => tidy(side, i.x, out),
+        Operation::TidyTwice => tidy_twice(side, i.x, out),
+        Operation::CheckOrder => plain(yuthpram::yuthpram_check_order(i.x)),
+        Operation::Length => counting(|n| yuthpram::yuthpram_length(i.x, n)),
+        Operation::OrderFault => order_fault(i.x),
     }
 }
 
-fn call(op: u8, number: u64, x: &[u8], y: &[u8], z: &[u8], w: &[u8], out: &mut [u8]) -> Called {
-    let side = low(number);
-    match op {
-        0 => number_size(number),
-        1 => number_read(x),
-        2 => number_write(number, out),
-        3 => cid_read(x, out),
-        4 => cid_write(x, out),
-        5 => plain(yuthpram::yuthpram_default(out)),
-        6 => plain(yuthpram::yuthpram_read(side, x, out)),
-        7 => write(x, out),
-        8 => plain(new(x, y, number, z, w, out)),
-        9 => plain(yuthpram::yuthpram_validate_resumption_from(x, y)),
-        10 => issue_limit(x),
-        11 => plain(yuthpram::yuthpram_check(x, side)),
-        12 => tidy(side, x, out),
-        13 => tidy_twice(side, x, out),
-        14 => plain(yuthpram::yuthpram_check_order(x)),
-        15 => length(x),
-        _ => order_fault(x),
-    }
-}
-
-fn call_with_room(h: Head, body: &[u8], out: &mut [u8]) -> Called {
-    let room = h.room;
-    if out.len() < room {
-        return plain(255);
-    }
-    let x = part(body, 0, h.x);
-    let y = part(body, h.x, h.y);
-    let z = part(body, h.y, h.z);
-    let w = part(body, h.z, h.w);
-    call(h.op, h.number, x, y, z, w, &mut out[0..room])
+// The call of an entry; none where there is no such operation, or not so much room.
+fn answer_of(h: Head, body: &[u8], out: &mut [u8]) -> Option<Called> {
+    let operation = *OPERATIONS.get(h.operation)?;
+    let room = out.get_mut(..h.room)?;
+    let input = Input {
+        number: h.number,
+        x: part(body, 0, h.x),
+        y: part(body, h.x, h.y),
+        z: part(body, h.y, h.z),
+        w: part(body, h.z, h.w),
+    };
+    Some(call(operation, input, room))
 }
 
 // Whether `out` holds the bytes due, and what stood there behind them.
-fn holds(out: &[u8], due: &[u8]) -> bool {
-    let n = due.len();
-    if out.len() < n {
-        return false;
-    }
-    let before = [FILL; 512];
-    if MOST < n {
-        return false;
-    }
-    &out[..n] == due && &out[n..] == &before[n..]
+fn holds(out: &[u8; MOST], due: &[u8]) -> bool {
+    out.starts_with(due) && out.iter().skip(due.len()).all(|b| *b == FILL)
 }
 
 // The value of number_read stands where other operations have the bytes due.
 fn agrees(h: Head, body: &[u8]) -> bool {
-    let mut out = [FILL; 512];
-    let c = call_with_room(h, body, &mut out);
+    let mut out = [FILL; MOST];
+    let Some(c) = answer_of(h, body, &mut out) else {
+        return false;
+    };
     let due = part(body, h.w, h.due);
     let numbers = c.code == h.code && c.number == h.number_due;
-    if h.op == 1 && h.code == 0 {
+    if OPERATIONS.get(h.operation) == Some(&Operation::NumberRead) && h.code == 0 {
         return numbers && c.value == eight(due, 0) && holds(&out, b"");
     }
     numbers && c.value == UNTOUCHED && holds(&out, due)
 }
 
-// Reads `n` bytes of the list to the front of `buf`.
-fn take(list: &mut Stdin, buf: &mut [u8], n: usize) -> bool {
-    if buf.len() < n {
-        return false;
-    }
-    list.read_exact(&mut buf[0..n]).is_ok()
+// How many entries of an operation there were, and how many of them differ.
+#[derive(Clone, Copy)]
+struct Tally {
+    cases: u64,
+    differences: u64,
 }
 
-#[derive(Drop)]
-enum Verdict {
-    Same,
-    Different,
-    // the list ends within an entry, or an entry is too long
-    Broken,
+// The next bytes of the list; none where it ends before, or where they are not one of `buf`'s parts.
+fn next<'a>(list: &mut Stdin, buf: &'a mut [u8], n: usize) -> Option<&'a [u8]> {
+    let bytes = buf.get_mut(..n)?;
+    list.read_exact(bytes).ok()?;
+    Some(bytes)
 }
 
-// Takes what stands behind an entry's head, and makes the call.
-fn judge(list: &mut Stdin, h: Head) -> Verdict {
+// What stands behind an entry's head: whether its call agrees; none if the list ends within the entry, or the entry is too long.
+fn judged(list: &mut Stdin, h: Head) -> Option<bool> {
     let mut body = [0u8; 2048];
-    if !take(list, &mut body, h.due) {
-        return Verdict::Broken;
-    }
-    if agrees(h, &body) {
-        Verdict::Same
-    } else {
-        Verdict::Different
+    next(list, &mut body, h.due)?;
+    Some(agrees(h, &body))
+}
+
+fn count(tally: &mut Tally, agrees: bool) {
+    tally.cases = tally.cases.wrapping_add(1);
+    if !agrees {
+        tally.differences = tally.differences.wrapping_add(1);
     }
 }
 
-fn one_more(counts: &mut [u64; OPERATIONS], op: u8) {
-    let i = op as usize;
-    if i < OPERATIONS {
-        counts[i] = counts[i].wrapping_add(1);
+// One entry; none where the list ends, with it or within it.
+fn entry(list: &mut Stdin, tallies: &mut [Tally; 17]) -> Option<()> {
+    let mut head = [0u8; 32];
+    next(list, &mut head, 32)?;
+    let h = head_of(&head);
+    let agreed = judged(list, h);
+    if let Some(tally) = tallies.get_mut(h.operation) {
+        count(tally, agreed == Some(true));
     }
-}
-
-// One entry; whether to go on. The list ends where no head is left.
-fn entry(
-    list: &mut Stdin,
-    cases: &mut [u64; OPERATIONS],
-    differences: &mut [u64; OPERATIONS],
-) -> bool {
-    let mut bytes = [0u8; 32];
-    if !take(list, &mut bytes, 32) {
-        return false;
-    }
-    let h = head_of(&bytes);
-    let op = h.op;
-    one_more(cases, op);
-    match judge(list, h) {
-        Verdict::Same => true,
-        Verdict::Different => {
-            one_more(differences, op);
-            true
-        }
-        Verdict::Broken => {
-            one_more(differences, op);
-            false
-        }
-    }
+    agreed.map(|_| ())
 }
 
 // Goes through the list. The count of turns is for the proof that it ends: no list is so long.
-fn replay(list: &mut Stdin, cases: &mut [u64; OPERATIONS], differences: &mut [u64; OPERATIONS]) {
+fn replay(list: &mut Stdin, tallies: &mut [Tally; 17]) {
     for _ in 0..u64::MAX {
-        if !entry(list, cases, differences) {
+        if entry(list, tallies).is_none() {
             return;
         }
     }
 }
 
-fn show(
-    rt: &HostRuntime,
-    name: &str,
-    i: usize,
-    cases: &[u64; OPERATIONS],
-    differences: &[u64; OPERATIONS],
-) -> io::Result<()> {
-    if OPERATIONS <= i {
-        return Ok(());
-    }
-    let all = cases[i];
-    let different = differences[i];
-    println!(rt; "{name}: {all} cases, {different} differences")
-}
-
-// A line for each operation.
-fn show_all(
-    rt: &HostRuntime,
-    cases: &[u64; OPERATIONS],
-    differences: &[u64; OPERATIONS],
-) -> io::Result<()> {
-    let names: [&str; OPERATIONS] = [
-        "number_size",
-        "number_read",
-        "number_write",
-        "cid_read",
-        "cid_write",
-        "default",
-        "read",
-        "write",
-        "new",
-        "resumption",
-        "issue_limit",
-        "check",
-        "tidy",
-        "tidy twice",
-        "check_order",
-        "length",
-        "order_fault",
-    ];
-    for i in 0..OPERATIONS {
-        show(rt, names[i], i, cases, differences)?;
+fn main(rt: HostRuntime) -> io::Result<()> {
+    let mut tallies = [Tally {
+        cases: 0,
+        differences: 0,
+    }; 17];
+    let mut list = rt.stdin();
+    replay(&mut list, &mut tallies);
+    for (operation, tally) in OPERATIONS.iter().zip(tallies) {
+        let all = tally.cases;
+        let different = tally.differences;
+        println!(rt; "{operation}: {all} cases, {different} differences")?;
     }
     Ok(())
-}
-
-fn main(rt: HostRuntime) -> io::Result<()> {
-    let mut cases = [0u64; OPERATIONS];
-    let mut differences = [0u64; OPERATIONS];
-    let mut list = rt.stdin();
-    replay(&mut list, &mut cases, &mut differences);
-    show_all(&rt, &cases, &differences)
 }

@@ -4,17 +4,18 @@
 --     absent_as_zero     on either side an absent datagram size and one of 0 are the same
 use Prim.Native.Nat.{ℕ}
 use mathlib.Core.Path.{◌≡◌, refl, ap}
-use mathlib.Core.List.{List, [], ◌∷◌}
+use mathlib.Core.List.{List}
 use mathlib.Core.Bool.{Bool, true, false, ◌&&◌, ◌||◌, not, not-or_self}
 use native.Mathlib.Omega.{arith}
-use native.Mathlib.Nat.{le_refl, le_trans}
+use native.Mathlib.Nat.{le_refl}
 use lib.ListN.{get_or}
 use lib.Dec.{leb}
 use borrow.Author.Tests.{le-leb, leb-true}
+use Rattle.std.proofs.lemmas.Bool.Decides.{nat_tests}
 use Rattle.refusal.specs.Outcome.{Outcome, accepted, refused, pick, all}
 use Rattle.refusal.proofs.Laws.{all_at}
 use Rattle.record.specs.declared.TransportParameters.{TransportParameters}
-use Rattle.words.specs.Words.{every}
+use Rattle.words.proofs.Laws.{every_at, every_of}
 use Rattle.record.specs.Optional.{OptionalNumber}
 use Rattle.std.specs.Prelude.{None, Some}
 use Rattle.record.specs.Record.{formed_optional, well_formed, bare}
@@ -26,39 +27,21 @@ leb_refl : (n : ℕ) → leb n n ≡ true
 leb_refl n = le-leb n n (le_refl n)
 
 leb_trans : (a b c : ℕ) → leb a b ≡ true → leb b c ≡ true → leb a c ≡ true
-leb_trans a b c h k = le-leb a c (le_trans (leb-true a b h) (leb-true b c k))
+leb_trans a b c h k = grind (arith, nat_tests)
 
 not_or_trans : (a b c : Bool) → (not a || b) ≡ true → (not b || c) ≡ true → (not a || c) ≡ true
-not_or_trans false b c h k = refl
-not_or_trans true true c h k = k
-not_or_trans true false c h k = let z : ◌≡◌ {A = ℕ} 0 1 = cc in absurd (omega arith)
-
-both : (s t : Bool) → (s && t) ≡ true → (s ≡ true) × (t ≡ true)
-both true t h = (refl, h)
-both false t h = let z : ◌≡◌ {A = ℕ} 0 1 = cc in absurd (omega arith)
-
--- what holds at each place holds of all
-every_place : (f : ℕ → Bool) → ((p : ℕ) → f p ≡ true) → (l : List ℕ) → every f l ≡ true
-every_place f h [] = refl
-every_place f h (p ∷ l) = rw (h p) (every_place f h l)
-
-every_joined : (f g e : ℕ → Bool) → ((p : ℕ) → f p ≡ true → g p ≡ true → e p ≡ true) → (l : List ℕ) → every f l ≡ true → every g l ≡ true → every e l ≡ true
-every_joined f g e h [] s t = refl
-every_joined f g e h (p ∷ l) s t =
-    let x = both (f p) (every f l) s in
-    let y = both (g p) (every g l) t in
-    rw (h p x.0 y.0) (every_joined f g e h l x.1 y.1)
+not_or_trans a b c h k = grind (arith, nat_tests)
 
 -- nothing is reduced
 limits_itself : (a : List ℕ) → limits_kept a a ≡ true
 unfolding limits_kept
-limits_itself a = every_place (λ p. leb (get_or a p 0) (get_or a p 0)) (λ p. leb_refl (get_or a p 0)) remembered
+limits_itself a = every_of (λ p. leb (get_or a p 0) (get_or a p 0)) remembered (λ p k. leb_refl _)
 
 limits_through : (a b c : List ℕ) → limits_kept b a ≡ true → limits_kept c b ≡ true → limits_kept c a ≡ true
 unfolding limits_kept
-limits_through a b c =
-    every_joined (λ p. leb (get_or a p 0) (get_or b p 0)) (λ p. leb (get_or b p 0) (get_or c p 0)) (λ p. leb (get_or a p 0) (get_or c p 0))
-    (λ p. leb_trans (get_or a p 0) (get_or b p 0) (get_or c p 0)) remembered
+limits_through a b c s t =
+    every_of (λ p. leb (get_or a p 0) (get_or c p 0)) remembered (λ p k.
+    leb_trans _ _ _ (every_at (λ p. leb (get_or a p 0) (get_or b p 0)) remembered s p k) (every_at (λ p. leb (get_or b p 0) (get_or c p 0)) remembered t p k))
 
 kept_itself : (r : TransportParameters) → nothing_reduced r r ≡ true
 unfolding nothing_reduced all
@@ -99,9 +82,9 @@ resumed new cached h = go (well_formed new) (well_formed cached) (nothing_reduce
     go : (s t u : Bool) → well_formed new ≡ s → well_formed cached ≡ t → nothing_reduced new cached ≡ u
         → pick {A = Outcome (Unit {0})} (s && t) (pick u (accepted tt) (refused 8)) (refused 7) ≡ accepted tt → Resumes new cached
     go true true true p q r h = record { formed = p; formed_before = q; kept = r }
-    go true true false p q r h = let z : ◌≡◌ {A = ℕ} 0 1 = cc in absurd (omega arith)
-    go true false u p q r h = let z : ◌≡◌ {A = ℕ} 0 1 = cc in absurd (omega arith)
-    go false t u p q r h = let z : ◌≡◌ {A = ℕ} 0 1 = cc in absurd (omega arith)
+    go true true false p q r h = absurd (cc)
+    go true false u p q r h = absurd (cc)
+    go false t u p q r h = absurd (cc)
 
 pub resumes_itself : (r : TransportParameters) → well_formed r ≡ true → resume r r ≡ accepted tt
 resumes_itself r h = resumes r r (record { formed = h; formed_before = h; kept = kept_itself r })
@@ -125,5 +108,5 @@ absent_as_zero =
           omega (arith, leb-true x 0 k.size);
       apart = λ r s e.
           let size : ◌≡◌ {A = OptionalNumber} None (Some 0) = ap (λ (q : TransportParameters). q.max_datagram_frame_size) e in
-          let z : ◌≡◌ {A = ℕ} 0 1 = cc in omega arith;
+          cc;
     }

@@ -1,94 +1,141 @@
-// The rows of a record's text form: the places of the catalogue, the parts of a preferred address, and the order; their names, and where each
-// stands in the image of a record.
-ghost use Rattle.std.specs.Prelude.{◌<◌};
+// The rows of a record's text form: the places of the catalogue, the parts of a preferred address, and the order; their names, what each holds, and
+// where it stands in the image of a record.
+ghost use Rattle.std.specs.Prelude.{◌≡◌, ◌<◌, IfSome};
+ghost use Rattle.std.specs.List.{slice_index_or};
 
-use catalogue::{NAME_WIDTH, NAMES, PLACES};
-use text::out::{Out, say};
-use text::{position, word};
+use catalogue::NAMES;
+use std::fmt;
+use std::fmt::Display;
 
-pub const ADDRESS_V4: usize = 21;
+// The unit of a number.
+#[derive(Clone, Copy)]
+pub enum Unit {
+    Plain,
+    Milliseconds,
+    Microseconds,
+    Bytes,
+    Streams,
+    ConnectionIds,
+}
 
-pub const ADDRESS_V6: usize = 22;
+impl Display for Unit {
+    fn fmt<W: fmt::Write>(&self, f: &mut fmt::Formatter<W>) -> fmt::Result {
+        match self {
+            Unit::Plain => Ok(()),
+            Unit::Milliseconds => write!(f, " milliseconds"),
+            Unit::Microseconds => write!(f, " microseconds"),
+            Unit::Bytes => write!(f, " bytes"),
+            Unit::Streams => write!(f, " streams"),
+            Unit::ConnectionIds => write!(f, " connection IDs"),
+        }
+    }
+}
 
-pub const ADDRESS_CID: usize = 23;
-
-pub const ADDRESS_TOKEN: usize = 24;
-
-pub const ORDER: usize = 25;
-
-pub const ROWS: usize = 26;
-
-// What a line without a name is; no mark is kept of it.
-pub const BLANK: usize = 32;
-
-const REST_NAMES: [u8; NAME_WIDTH * (ROWS - PLACES)] = *b"\
-preferred_address_v4                \
-preferred_address_v6                \
-preferred_address_cid               \
-preferred_address_token             \
-order                               ";
+// What a row holds.
+#[derive(Clone, Copy)]
+pub enum Kind {
+    // a number that is always there, by its unit
+    Number(Unit),
+    // one that may be absent
+    OptionalNumber(Unit),
+    Flag,
+    // whether there is a preferred address; its parts have rows of their own
+    Address,
+    Token,
+    ConnectionId,
+    // an identifier, and a payload behind its length
+    Reserved,
+    // the parts of an address
+    V4,
+    V6,
+    AddressId,
+    AddressToken,
+    Order,
+}
 
 // Where the image of a record says that there is a preferred address.
 pub const ADDRESS_FLAG: usize = 191;
 
-// Where the value of each row starts in the image of a record. What may be absent has a flag before it; the ID and the token of an address have
-// the address's.
-const VALUE_AT: [u16; ROWS] = [
-    0, 8, 16, 24, 32, 40, 48, 56, 64, 72, 80, 256, 175, 89, 91, 192, 109, 131, 153, 90, 100, 193,
-    200, 218, 239, 282,
+// A row: what it holds, and where its value starts in the image of a record.
+#[derive(Clone, Copy)]
+pub struct Row(pub Kind, u16);
+
+impl Row {
+    pub fn value_at(self) -> usize
+        ensures { (result ≡ self.1) × (result < 65536) }
+    {
+        self.1 as usize
+    }
+
+    // Where its flag stands, if it may be absent: before its value, but the ID and the token of an address have the address's.
+    pub fn flag_at(self) -> Option<usize>
+        ensures { IfSome result (λ at. at < 65536) }
+    {
+        match self.0 {
+            Kind::Number(_) => None,
+            Kind::AddressId | Kind::AddressToken => Some(ADDRESS_FLAG),
+            _ => Some(self.value_at().saturating_sub(1)),
+        }
+    }
+}
+
+// The places of the catalogue come first, each at its place.
+pub const ROWS: [Row; 26] = [
+    Row(Kind::Number(Unit::Milliseconds), 0),
+    Row(Kind::Number(Unit::Bytes), 8),
+    Row(Kind::Number(Unit::Bytes), 16),
+    Row(Kind::Number(Unit::Bytes), 24),
+    Row(Kind::Number(Unit::Bytes), 32),
+    Row(Kind::Number(Unit::Bytes), 40),
+    Row(Kind::Number(Unit::Streams), 48),
+    Row(Kind::Number(Unit::Streams), 56),
+    Row(Kind::Number(Unit::Plain), 64),
+    Row(Kind::Number(Unit::Milliseconds), 72),
+    Row(Kind::Number(Unit::ConnectionIds), 80),
+    Row(Kind::Reserved, 256),
+    Row(Kind::Token, 175),
+    Row(Kind::Flag, 89),
+    Row(Kind::OptionalNumber(Unit::Bytes), 91),
+    Row(Kind::Address, 192),
+    Row(Kind::ConnectionId, 109),
+    Row(Kind::ConnectionId, 131),
+    Row(Kind::ConnectionId, 153),
+    Row(Kind::Flag, 90),
+    Row(Kind::OptionalNumber(Unit::Microseconds), 100),
+    Row(Kind::V4, 193),
+    Row(Kind::V6, 200),
+    Row(Kind::AddressId, 218),
+    Row(Kind::AddressToken, 239),
+    Row(Kind::Order, 282),
 ];
 
-fn wide(x: u16) -> usize
-    ensures { result < 65536 }
+// The names of those behind the places.
+const PART_NAMES: [&str; 5] = [
+    "preferred_address_v4",
+    "preferred_address_v6",
+    "preferred_address_cid",
+    "preferred_address_token",
+    "order",
+];
+
+// The name of row `i`.
+pub fn name_of(i: usize) -> &'static str {
+    NAMES
+        .iter()
+        .chain(PART_NAMES.iter())
+        .nth(i)
+        .copied()
+        .unwrap_or("")
+}
+
+// The row of this name, and its number.
+pub fn row_named(name: &[u8]) -> Option<(usize, Row)>
+    ensures { IfSome result (λ found. (found.0 < 26) × (found.1 ≡ slice_index_or ROWS found.0 found.1)) }
 {
-    x as usize
-}
-
-pub fn value_at(row: usize) -> usize
-    ensures { result < 65536 }
-{
-    let places = VALUE_AT;
-    if row < ROWS { wide(places[row]) } else { 0 }
-}
-
-// Where the flag of a row stands.
-pub fn flag_at(row: usize) -> usize {
-    if row == ADDRESS_CID || row == ADDRESS_TOKEN {
-        return ADDRESS_FLAG;
-    }
-    let at = value_at(row);
-    if at == 0 { 0 } else { at - 1 }
-}
-
-// The name of a row, in a column.
-pub fn say_label(out: &mut Out, row: usize) {
-    let first = NAMES;
-    let rest = REST_NAMES;
-    if row < PLACES {
-        let from = row * NAME_WIDTH;
-        let to = from + NAME_WIDTH;
-        say(out, &first[from..to]);
-        return;
-    }
-    if row < ROWS {
-        let from = (row - PLACES) * NAME_WIDTH;
-        let to = from + NAME_WIDTH;
-        say(out, &rest[from..to]);
-    }
-}
-
-// The row that a line is of; `ROWS` if no row has its name.
-pub fn row_of(line: &[u8]) -> usize {
-    let name = word(line, 0, b' ');
-    if name.len() == 0 {
-        return BLANK;
-    }
-    if name[0] == b'#' {
-        return BLANK;
-    }
-    let place = position(&NAMES, PLACES, name);
-    if place < PLACES {
-        return place;
-    }
-    PLACES + position(&REST_NAMES, ROWS - PLACES, name)
+    let i = NAMES
+        .iter()
+        .chain(PART_NAMES.iter())
+        .position(|n| n.as_bytes() == name)?;
+    let row = ROWS.get(i)?;
+    Some((i, *row))
 }

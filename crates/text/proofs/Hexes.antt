@@ -1,5 +1,4 @@
 -- Laws of hexadecimal numbers. Assumes nothing.
---     small             a character that is neither strange nor a gap
 --     digit_kept, digit_lost    a digit that was stored, and one that was not
 --     put_more          the buffer with one more digit
 --     Met               what is so behind the first i characters, n of them digits; and what follows from it:
@@ -16,9 +15,10 @@ use lib.Bits.{bit_or, or_shifted}
 use lib.Dec.{eqb, ltb}
 use borrow.Author.Tests.{lt-ltb, le-ltb, ltb-true, ltb-false, eq-eqb, ne_eqb}
 use Rattle.refusal.specs.Outcome.{pick}
-use Rattle.text.specs.declared.Hex.TheVariants.{Bytes, Strange, Odd, Long}
+use Rattle.std.specs.Prelude.{Ok, Err}
+use Rattle.text.specs.declared.HexError.TheVariants.{Strange, Odd, Long}
 use Rattle.text.specs.Text.{stored, digit_of, known, digits_in, packed, fitting, hex_text, hex_stored, digit_stored}
-use Rattle.text.proofs.Decimals.{digit_most, more, rest}
+use Rattle.text.proofs.Decimals.{more, rest}
 
 digits_append : (a b : List ℕ) → digits_in (a ++ b) ≡ digits_in a ++ digits_in b
 digits_append [] b = refl
@@ -70,9 +70,6 @@ module _ (s : List ℕ) (i : ℕ) (h : i < length s) where
 
   digits_more : digit_of (get_or s i 0) < 16 → digits_in (take (i + 1) s) ≡ digits_in (take i s) ++ (digit_of (get_or s i 0) ∷ [])
   digits_more d = rw (more s i h, digits_append (take i s) (get_or s i 0 ∷ []), lt-ltb (digit_of (get_or s i 0)) 16 d)
-
-pub small : (b r : ℕ) → r ≡ digit_of b → (r ≡ 17 → ⊥) → (r ≡ 16 → ⊥) → digit_of b < 16
-small b r e f g = omega (arith, digit_most b)
 
 -- STORING A DIGIT
 module _ (at room n d : ℕ) (out l : List ℕ) (r : Bool) (x : (r, l) ≡ digit_stored at room n d out) where
@@ -141,7 +138,7 @@ module _ (s first : List ℕ) (at room i n : ℕ) (out : List ℕ) (m : Met s fi
   fits : length (packed (digits_in (take i s))) ≤ fitting at room first
   fits = omega (arith, packed_length (digits_in (take i s)), m.count, m.within)
 
-  pub is_strange : i < length s → digit_of (get_or s i 0) ≡ 17 → (Strange i, out) ≡ hex_stored s at room first
+  pub is_strange : i < length s → digit_of (get_or s i 0) ≡ 17 → (Err (Strange i), out) ≡ hex_stored s at room first
   unfolding hex_stored hex_text
   is_strange h d =
       rw (
@@ -158,7 +155,7 @@ module _ (s first : List ℕ) (at room i n : ℕ) (out : List ℕ) (m : Met s fi
     whole : known s ≡ take i s
     whole = m.plain ∙ rw (drop_of_length-le s h) (append-nil (take i s))
 
-    pub is_odd : n % 2 ≡ 1 → (Odd, out) ≡ hex_stored s at room first
+    pub is_odd : n % 2 ≡ 1 → (Err Odd, out) ≡ hex_stored s at room first
     unfolding hex_stored hex_text
     is_odd d =
         rw (
@@ -172,7 +169,7 @@ module _ (s first : List ℕ) (at room i n : ℕ) (out : List ℕ) (m : Met s fi
           ← m.stores,
         )
 
-    pub is_bytes : (n % 2 ≡ 1 → ⊥) → (Bytes (n / 2), out) ≡ hex_stored s at room first
+    pub is_bytes : (n % 2 ≡ 1 → ⊥) → (Ok (n / 2), out) ≡ hex_stored s at room first
     unfolding hex_stored hex_text
     is_bytes d =
         rw (
@@ -197,7 +194,7 @@ module _ (s first : List ℕ) (at room i n : ℕ) (out : List ℕ) (m : Met s fi
     many : 2 * fitting at room first < length (digits_in (known s))
     many = rw (all, length-append (digits_in (take i s)) (digit_of (get_or s i 0) ∷ digits_in (known (drop (i + 1) s))), ← m.count) (omega (arith, m.within))
 
-    long : (Long, out) ≡ hex_stored s at room first
+    long : (Err Long, out) ≡ hex_stored s at room first
     unfolding hex_stored hex_text
     long =
         rw (
@@ -210,7 +207,7 @@ module _ (s first : List ℕ) (at room i n : ℕ) (out : List ℕ) (m : Met s fi
         )
 
   pub is_long : i < length s → digit_of (get_or s i 0) < 16 → (r : Bool) (l : List ℕ) → (r, l) ≡ digit_stored at room n (digit_of (get_or s i 0)) out → r ≡ false
-      → (Long, l) ≡ hex_stored s at room first
+      → (Err Long, l) ≡ hex_stored s at room first
   is_long h d r l x t =
       let k = digit_lost at room n (digit_of (get_or s i 0)) out l r x t in
       rw k.1 (long h d (rw met_length at k.0))

@@ -1,33 +1,25 @@
 -- Laws of words, and of lists of numbers. Assumes nothing.
---     before_here, before_next, before_end, before_most    how many characters stand before one that passes
---     word_next, word_here, word_within    a word by the places where it begins and ends
+--     before_most, before_is    how many characters stand before one that passes
+--     split             the first word, and what stands behind it
 --     Listed            what is so behind the words before word k; and what follows from it:
 --       listed_none, listed_more    at the start, and one word later
 --       cut, whole      what the list is
 use Prim.Native.Nat.{ℕ, suc, ◌+◌, ◌-◌, ◌≤◌, ◌<◌}
-use mathlib.Core.Path.{◌≡◌, sym, ap, ◌∙◌}
+use mathlib.Core.Path.{◌≡◌, refl, ap, ◌∙◌}
 use mathlib.Core.List.{List, [], ◌∷◌, ◌++◌}
-use mathlib.Core.Bool.{Bool, true, false, not}
+use mathlib.Core.Bool.{Bool, true, false, not, cond}
 use native.Mathlib.Omega.{arith}
-use lib.ListN.{length, get_or, take, drop, set, length-drop, drop_of_length-le}
-use lib.Seq.{drop-drop, drop-cons, take-suc, take_all, sets, length-take-le}
-use lib.Dec.{eqb}
-use borrow.Author.Tests.{eq-eqb, ne_eqb, le-leb}
+use lib.ListN.{length, get_or, take, drop, set, length-drop}
+use lib.Seq.{drop-cons, take-suc, take_all, sets, length-take-le}
+use lib.Dec.{eqb, ltb}
+use borrow.Author.Tests.{ltb-false, eq-eqb, ne_eqb, le-leb}
 use Rattle.refusal.specs.Outcome.{pick}
-use Rattle.text.specs.declared.DecimalText.TheVariants.{Number}
-use Rattle.text.specs.Text.{is_gap, before, from_word, past_word, word_at, decimal, listed, byte_words, list_stored}
-use Rattle.text.proofs.Decimals.{rest}
+use Rattle.std.specs.Prelude.{Option, Some, None, unwrap_or, position}
+use Rattle.std.specs.List.{position_or_len}
+use Rattle.std.proofs.lemmas.List.Recursion.{is_position_or_len}
+use Rattle.text.specs.Text.{is_gap, before, past_word, word_at, decimal, listed, byte_words, list_stored}
 
 module _ (f : ℕ → Bool) where
-  pub before_here : (s : List ℕ) (i : ℕ) → i < length s → f (get_or s i 0) ≡ true → before f (drop i s) ≡ 0
-  before_here s i h e = rw (rest s i h, e)
-
-  pub before_next : (s : List ℕ) (i : ℕ) → i < length s → f (get_or s i 0) ≡ false → before f (drop i s) ≡ suc (before f (drop (i + 1) s))
-  before_next s i h e = rw (rest s i h, e)
-
-  pub before_end : (s : List ℕ) (i : ℕ) → length s ≤ i → before f (drop i s) ≡ 0
-  before_end s i h = rw (drop_of_length-le s h)
-
   pub before_most : (l : List ℕ) → before f l ≤ length l
   before_most [] = omega arith
   before_most (c ∷ l) = go (f c) (before_most l)
@@ -36,31 +28,27 @@ module _ (f : ℕ → Bool) where
       go true e = omega arith
       go false e = omega arith
 
--- where a word begins and ends
-module _ (sep : ℕ) (s : List ℕ) (at from to : ℕ) (e : from ≡ at + before (λ c. not (is_gap sep c)) (drop at s)) (f : to ≡ from + before (is_gap sep) (drop from s)) where
-  begins : drop from s ≡ from_word sep (drop at s)
-  begins = rw e (sym (drop-drop (before (λ c. not (is_gap sep c)) (drop at s)) at s))
+  -- as std's iterators say it
+  pub before_is : (l : List ℕ) → unwrap_or (position f l) (length l) ≡ before f l
+  before_is l =
+      let e : before f l ≡ position_or_len f l = is_position_or_len (before f) f refl (λ x m. step (f x) (before f m)) l in
+      rw (← e) (go (ltb (before f l) (length l)) refl)
+    where
+      step : (t : Bool) (n : ℕ) → pick t 0 (suc n) ≡ cond t 0 (1 + n)
+      step true n = refl
+      step false n = omega arith
 
-  ends : drop to s ≡ past_word sep (drop at s)
-  ends = rw (f, ← drop-drop (before (is_gap sep) (drop from s)) from s, begins)
+      go : (t : Bool) → ltb (before f l) (length l) ≡ t → unwrap_or (cond t (Some (before f l)) None) (length l) ≡ before f l
+      go true h = refl
+      go false h = omega (arith, ltb-false (before f l) (length l) h, before_most l)
 
-  pub word_next : (k : ℕ) → word_at sep (suc k) (drop at s) ≡ word_at sep k (drop to s)
-  word_next k = rw ends
-
-  pub word_here : take (to - from) (drop from s) ≡ word_at sep 0 (drop at s)
-  word_here = let n : to - from ≡ before (is_gap sep) (drop from s) = omega arith in rw (n, begins)
-
-  pub word_within : at ≤ length s → (from ≤ to) × (to ≤ length s)
-  word_within h = (
-    omega arith,
-    omega (
-      arith,
-      before_most (λ c. not (is_gap sep c)) (drop at s),
-      length-drop at s,
-      before_most (is_gap sep) (drop from s),
-      length-drop from s,
-    ),
-  )
+-- the first word and what stands behind it, as std's functions give them
+pub split : (sep : ℕ) (s m u v : List ℕ) (p q : Option ℕ) (i j : ℕ) → p ≡ position (λ b. not (is_gap sep b)) s → i ≡ unwrap_or p (length s) → m ≡ drop i s
+    → q ≡ position (λ b. is_gap sep b) m → j ≡ unwrap_or q (length m) → u ≡ take j m → v ≡ drop j m → (u ≡ word_at sep 0 s) × (v ≡ past_word sep s)
+split sep s m u v p q i j e f g h k x y =
+    let a : i ≡ before (λ b. not (is_gap sep b)) s = f ∙ (ap (λ r. unwrap_or r (length s)) e ∙ before_is (λ b. not (is_gap sep b)) s) in
+    let b : j ≡ before (is_gap sep) m = k ∙ (ap (λ r. unwrap_or r (length m)) h ∙ before_is (λ b. is_gap sep b) m) in
+    (rw (x, b, g, a), rw (y, b, g, a))
 
 -- LISTS OF NUMBERS
 sets_snoc : (a l : List ℕ) (p x : ℕ) → sets l p (a ++ (x ∷ [])) ≡ set (sets l p a) (p + length a) x
@@ -99,7 +87,7 @@ module _ (s first : List ℕ) (from to sep at k : ℕ) (out : List ℕ) (m : Lis
         let f : suc k ≡ k + 1 = omega arith in
         rw (e, f)
 
-    pub listed_more : (x : ℕ) → decimal (word_at sep k s) ≡ Number x → x ≤ 255 → Listed s first from to sep at (k + 1) (set out (at + (k - from)) x)
+    pub listed_more : (x : ℕ) → decimal (word_at sep k s) ≡ Some x → x ≤ 255 → Listed s first from to sep at (k + 1) (set out (at + (k - from)) x)
     listed_more x d b =
         let all = byte_words sep s (to - from) from in
         let more = byte_words sep s (to - (k + 1)) (k + 1) in

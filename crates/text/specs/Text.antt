@@ -1,14 +1,14 @@
 -- What text holds: words, decimal and hexadecimal numbers; and what storing them leaves in a buffer. Characters are bytes, and `sets` stores
 -- bytes from a place on, as far as there is room.
-use Rattle.std.specs.Prelude.{ℕ, zero, suc, ◌+◌, ◌-◌, ◌*◌, ◌/◌, ◌%◌, ◌^◌, min, Bool, true, false, ◌&&◌, ◌||◌, not, List, [], ◌∷◌, length, get_or, take, drop, set, eqb, leb, ltb}
+use Rattle.std.specs.Prelude.{ℕ, zero, suc, ◌≡◌, ◌<◌, ◌+◌, ◌-◌, ◌*◌, ◌/◌, ◌%◌, ◌^◌, min, Bool, true, false, ◌&&◌, ◌||◌, not, List, [], ◌∷◌, length, get_or, take, drop, set, eqb, leb, ltb, Option, Some, None, Result, Ok, Err}
 use Rattle.std.proofs.lemmas.List.Edits.{sets}
 use Rattle.std.specs.Int.Bits.{bit_or}
 use Rattle.refusal.specs.Outcome.{pick}
 use Rattle.words.specs.Words.{every, bytes_of}
-use Rattle.text.specs.declared.DecimalText.{DecimalText}
-use Rattle.text.specs.declared.DecimalText.TheVariants.{Number, Strange as StrangeText}
-use Rattle.text.specs.declared.Hex.{Hex}
-use Rattle.text.specs.declared.Hex.TheVariants.{Bytes, Strange, Odd, Long}
+use Rattle.text.specs.declared.Character.{Character}
+use Rattle.text.specs.declared.Character.TheVariants.{Digit, Gap, Other}
+use Rattle.text.specs.declared.HexError.{HexError}
+use Rattle.text.specs.declared.HexError.TheVariants.{Strange, Odd, Long}
 
 -- a byte stored at a place, if there is that place; and whether there is
 abbrev pub stored : ℕ → ℕ → List ℕ → Bool × List ℕ
@@ -30,16 +30,17 @@ digit_of b =
     (pick (in_range 65 70 b) (b - 65 + 10)
     (pick (is_gap 58 b) 16 17)))
 
+-- the same, as the code names it
+abbrev pub IsCharacter : ℕ → Character → Type 0
+IsCharacter b (Digit d) = (d ≡ digit_of b) × (d < 16)
+IsCharacter b Gap = digit_of b ≡ 16
+IsCharacter b Other = digit_of b ≡ 17
+
 -- WORDS
 -- how many characters stand before the first that passes a test
 abbrev pub before : (ℕ → Bool) → List ℕ → ℕ
 before f [] = 0
 before f (c ∷ cs) = pick (f c) 0 (suc (before f cs))
-
--- a test, or its contrary
-abbrev pub asked_of : Bool → Bool → Bool
-asked_of true b = b
-asked_of false b = not b
 
 -- the characters from the first word on; and those behind it
 abbrev pub from_word : ℕ → List ℕ → List ℕ
@@ -64,18 +65,18 @@ unfoldable pub kept : ℕ → ℕ
 kept v = pick (ltb (v / 10) (2 ^ 60)) v (2 ^ 64 - 1)
 
 -- what decimal text is: a number, if it has digits and nothing else
-unfoldable pub decimal : List ℕ → DecimalText
-decimal text = pick (ltb 0 (length text) && every (in_range 48 57) text) (Number (kept (decimal_from 0 text))) StrangeText
+unfoldable pub decimal : List ℕ → Option ℕ
+decimal text = pick (ltb 0 (length text) && every (in_range 48 57) text) (Some (kept (decimal_from 0 text))) None
 
 -- the number of a text, if it is one of at most `most`, stored in n bytes, high byte first; and whether it is
-abbrev pub number_stored : ℕ → ℕ → ℕ → List ℕ → DecimalText → Bool × List ℕ
-number_stored most at n out (Number x) = pick (leb x most) (true, sets out at (bytes_of n x)) (false, out)
-number_stored most at n out StrangeText = (false, out)
+abbrev pub number_stored : ℕ → ℕ → ℕ → List ℕ → Option ℕ → Bool × List ℕ
+number_stored most at n out (Some x) = pick (leb x most) (true, sets out at (bytes_of n x)) (false, out)
+number_stored most at n out None = (false, out)
 
 -- a number below 256 before others; nothing if it is none
-abbrev pub listed : DecimalText → List ℕ → List ℕ
-listed (Number x) l = pick (leb x 255) (x ∷ l) []
-listed StrangeText l = []
+abbrev pub listed : Option ℕ → List ℕ → List ℕ
+listed (Some x) l = pick (leb x 255) (x ∷ l) []
+listed None l = []
 
 -- the numbers below 256 that the words are, m of them from word k on, up to the first that is none
 abbrev pub byte_words : ℕ → List ℕ → ℕ → ℕ → List ℕ
@@ -111,26 +112,24 @@ abbrev pub fitting : ℕ → ℕ → List ℕ → ℕ
 fitting at room out = min room (length out - at)
 
 -- what hexadecimal text is where there is room for some bytes. Of a strange character and a digit too many, the first counts
-unfoldable pub hex_text : List ℕ → ℕ → Hex
+unfoldable pub hex_text : List ℕ → ℕ → Result ℕ HexError
 hex_text text room =
-    pick (ltb (2 * room) (length (digits_in (known text)))) Long
-    (pick (ltb (length (known text)) (length text)) (Strange (length (known text)))
-    (pick (eqb (length (digits_in (known text)) % 2) 1) Odd (Bytes (length (digits_in (known text)) / 2))))
+    pick (ltb (2 * room) (length (digits_in (known text)))) (Err Long)
+    (pick (ltb (length (known text)) (length text)) (Err (Strange (length (known text))))
+    (pick (eqb (length (digits_in (known text)) % 2) 1) (Err Odd) (Ok (length (digits_in (known text)) / 2))))
 
 -- what text is, and the buffer with the bytes that it holds, as far as there is room. The digits before a strange character are stored too
-unfoldable pub hex_stored : List ℕ → ℕ → ℕ → List ℕ → Hex × List ℕ
+unfoldable pub hex_stored : List ℕ → ℕ → ℕ → List ℕ → Result ℕ HexError × List ℕ
 hex_stored text at room out =
     (hex_text text (fitting at room out), sets out at (take (fitting at room out) (packed (digits_in (known text)))))
 
 -- whether text is 16 bytes
-abbrev pub are_sixteen : Hex → Bool
-are_sixteen (Bytes n) = eqb n 16
-are_sixteen (Strange i) = false
-are_sixteen Odd = false
-are_sixteen Long = false
+abbrev pub are_sixteen : Result ℕ HexError → Bool
+are_sixteen (Ok n) = eqb n 16
+are_sixteen (Err e) = false
 
 -- the same, with that for the answer
-abbrev pub sixteen_stored : Hex × List ℕ → Bool × List ℕ
+abbrev pub sixteen_stored : Result ℕ HexError × List ℕ → Bool × List ℕ
 sixteen_stored h = (are_sixteen h.0, h.1)
 
 -- the digit behind n others, stored if its byte is one of `room` bytes and there is that byte; and whether it is

@@ -6,11 +6,10 @@ use mathlib.Core.List.{List, [], ◌∷◌, ◌++◌}
 use mathlib.Core.Option.{none, some}
 use mathlib.Core.Bool.{Bool, true, false}
 use native.Mathlib.Omega.{arith}
-use lib.ListN.{length, get_or}
+use lib.ListN.{length, get_or, take, drop}
 use borrow.Author.Tests.{eqb-true}
 use Rattle.refusal.specs.Outcome.{Outcome, accepted, refused, pick, store}
 use Rattle.refusal.specs.Number.{number_of}
-use Rattle.refusal.specs.declared.Refusal.{Refusal}
 use Rattle.refusal.proofs.Laws.{all_at}
 use Rattle.words.specs.Words.{elements}
 use Rattle.marks.specs.Mark.{marked}
@@ -29,9 +28,8 @@ use Rattle.rules.specs.Rules.{legal}
 use Rattle.front.specs.declared.Fault.{Fault}
 use Rattle.front.specs.Answer.{refused_with}
 use Rattle.value.proofs.Checks.{number_at_lem, not_number_at}
-use Rattle.index.specs.Index.{Found, indexed}
-use Rattle.index.proofs.Sound.{sound}
-use Rattle.reader.specs.Kept.{value_at, record_from}
+use Rattle.index.specs.Index.{Found, indexed, value_at}
+use Rattle.reader.specs.Kept.{record_from}
 use Rattle.reader.proofs.Indexed.{no_number, flag_no, address_no, kept_good, read_recorded, read_faulty}
 use Rattle.reader.proofs.Laws.{accepted_legal}
 use Rattle.wire.specs.Wire.{put, due_value, due_number, number_at}
@@ -43,16 +41,16 @@ use Rattle.address.specs.Address.{address_bytes}
 use Rattle.writer.proofs.Places.{from11, from16, in_catalogue_order, all_due}
 use Rattle.writer.proofs.Extension.{longest}
 use Rattle.tidy.specs.Tidying.{tidy}
-use Rattle.tidy.specs.Pieces.{span_at, Kept, piece_of, piece_for, others, pieces}
+use Rattle.tidy.specs.Pieces.{span_at, piece_of, piece_for, others, pieces}
 use Rattle.tidy.proofs.Laws.{tidied}
 
 -- a value that is due or not, from where it stands and by way of the record
-token_piece : (b : Bool) (id : ℕ) (v : List ℕ) → due_value (token_in (pick b (some v) none)).present id (token_in (pick b (some v) none)).token.bytes ≡ due_value b id v
+token_piece : (b : Bool) (id : ℕ) (v : List ℕ) → due_value (token_in (pick b (some v) none)).present id (token_in (pick b (some v) none)).value.bytes ≡ due_value b id v
 unfolding token_in due_value
 token_piece true id v = refl
 token_piece false id v = refl
 
-cid_piece : (b : Bool) (id : ℕ) (v : List ℕ) → due_value (cid_in (pick b (some v) none)).present id (cid_bytes (cid_in (pick b (some v) none)).cid) ≡ due_value b id v
+cid_piece : (b : Bool) (id : ℕ) (v : List ℕ) → due_value (cid_in (pick b (some v) none)).present id (cid_bytes (cid_in (pick b (some v) none)).value) ≡ due_value b id v
 unfolding cid_in due_value
 cid_piece true id v = rw (cid_same v)
 cid_piece false id v = refl
@@ -75,12 +73,12 @@ number_piece true id x = refl
 number_piece false id x = refl
 
 -- nothing, a number or a value, as the place was met and is of which kind
-module _ (id : ℕ) (s : List ℕ) (m : ℕ) (kept lens : List ℕ) (p : ℕ) where
-  pub none_due : (out : List ℕ) → marked m p ≡ false → (0, out) ≡ put (piece_for id s m kept lens p) out
+module _ (id : ℕ) (s : List ℕ) (f : Found) (p : ℕ) where
+  pub none_due : (out : List ℕ) → marked f.0 p ≡ false → (0, out) ≡ put (piece_for id s f p) out
   unfolding piece_for piece_of
   none_due out h = rw h (go (kind_at p))
     where
-      go : (k : Kind) → (0, out) ≡ put (piece_of k false id (get_or kept p 0) (span_at s kept lens p)) out
+      go : (k : Kind) → (0, out) ≡ put (piece_of k false id (get_or f.1 p 0) (span_at s f p)) out
       go number = unfold due_number due_value in put_nil out
       go flag = unfold due_value in put_nil out
       go cid = unfold due_value in put_nil out
@@ -88,74 +86,78 @@ module _ (id : ℕ) (s : List ℕ) (m : ℕ) (kept lens : List ℕ) (p : ℕ) wh
       go address = unfold due_value in put_nil out
       go reserved = unfold due_value in put_nil out
 
-  pub number_due : marked m p ≡ true → marked 0x1047ff p ≡ true → due_number true id (get_or kept p 0) ≡ piece_for id s m kept lens p
+  pub number_due : marked f.0 p ≡ true → marked 0x1047ff p ≡ true → due_number true id (get_or f.1 p 0) ≡ piece_for id s f p
   unfolding piece_for piece_of
   number_due d h = rw (d, number_at_lem p h) refl
 
-  pub value_due : marked m p ≡ true → marked 0x1047ff p ≡ false → due_value true id (span_at s kept lens p) ≡ piece_for id s m kept lens p
-  unfolding piece_for piece_of
-  value_due d h = rw d (go (kind_at p) (not_number_at p h))
+  pub unmet : none ≡ value_at s f p → marked f.0 p ≡ false
+  unfolding value_at
+  unmet e = go (marked f.0 p) e
     where
-      go : (k : Kind) → (k ≡ number → ⊥) → due_value true id (span_at s kept lens p) ≡ piece_of k true id (get_or kept p 0) (span_at s kept lens p)
-      go number n = absurd (n refl)
-      go flag n = refl
-      go cid n = refl
-      go token n = refl
-      go address n = refl
-      go reserved n = refl
+      go : (b : Bool) → none ≡ pick b (some (take (get_or f.2 p 0) (drop (get_or f.1 p 0) s))) none → b ≡ false
+      go false q = refl
+      go true q = let z : ◌≡◌ {A = ℕ} 0 1 = cc in absurd (omega arith)
 
-module _ (side : Side) (s : List ℕ) (m : ℕ) (kept lens : List ℕ) (hb : Bytes s) (e : indexed side s ≡ accepted (m, kept, lens)) where
-  abbrev f : Found
-  f = (m, kept, lens)
+  pub value_due : (v : List ℕ) → marked 0x1047ff p ≡ false → some v ≡ value_at s f p → due_value true id v ≡ piece_for id s f p
+  unfolding piece_for piece_of value_at span_at
+  value_due v h e = go (marked f.0 p) (kind_at p) (not_number_at p h) e
+    where
+      go : (b : Bool) (k : Kind) → (k ≡ number → ⊥) → some v ≡ pick b (some (take (get_or f.2 p 0) (drop (get_or f.1 p 0) s))) none
+          → due_value true id v ≡ piece_of k b id (get_or f.1 p 0) (take (get_or f.2 p 0) (drop (get_or f.1 p 0) s))
+      go false k n q = let z : ◌≡◌ {A = ℕ} 0 1 = cc in absurd (omega arith)
+      go true number n q = absurd (n refl)
+      go true flag n q = let w : v ≡ take (get_or f.2 p 0) (drop (get_or f.1 p 0) s) = cc in rw w
+      go true cid n q = let w : v ≡ take (get_or f.2 p 0) (drop (get_or f.1 p 0) s) = cc in rw w
+      go true token n q = let w : v ≡ take (get_or f.2 p 0) (drop (get_or f.1 p 0) s) = cc in rw w
+      go true address n q = let w : v ≡ take (get_or f.2 p 0) (drop (get_or f.1 p 0) s) = cc in rw w
+      go true reserved n q = let w : v ≡ take (get_or f.2 p 0) (drop (get_or f.1 p 0) s) = cc in rw w
 
+module _ (side : Side) (s : List ℕ) (f : Found) (hb : Bytes s) (e : indexed side s ≡ accepted f) where
   formed : well_formed (record_from s f) ≡ true
   unfolding legal
   formed = all_at _ (accepted_legal side s (record_from s f) hb (read_recorded side s f e)).0 0
 
-  numbers_piece : each (number_at (record_from s f).numbers) 11 ≡ each (number_at kept) 11
+  numbers_piece : each (number_at (record_from s f).numbers) 11 ≡ each (number_at f.1) 11
   unfolding each number_at record_from elements
   numbers_piece = refl
 
-  address_good : IfSome (Fits address) (pick (marked m 15) (some (span_at s kept lens 15)) none)
+  address_good : IfSome (Fits address) (pick (marked f.0 15) (some (span_at s f 15)) none)
   unfolding kind_at kinds other_kinds value_at span_at
   address_good = kept_good side s f hb e 15 address_no
 
-  flag_good : (p : ℕ) → kind_at p ≡ flag → IfSome (Fits flag) (pick (marked m p) (some (span_at s kept lens p)) none)
+  flag_good : (p : ℕ) → kind_at p ≡ flag → IfSome (Fits flag) (pick (marked f.0 p) (some (span_at s f p)) none)
   unfolding value_at span_at
   flag_good p k = rw k at (kept_good side s f hb e p (no_number p flag k flag_no))
 
-  others_piece : joined (from11 (record_from s f) ++ from16 (record_from s f)) ≡ joined (others s m kept lens)
+  others_piece : joined (from11 (record_from s f) ++ from16 (record_from s f)) ≡ joined (others s f)
   unfolding others each piece_for piece_of kind_at kinds other_kinds record_from value_at no_reserved joined span_at
   others_piece =
       rw (
-        token_piece (marked m 12) (id_at 12) (span_at s kept lens 12),
-        flag_piece (marked m 13) (id_at 13) (span_at s kept lens 13) (flag_good 13 refl),
-        number_piece (marked m 14) (id_at 14) (get_or kept 14 0),
-        address_piece (marked m 15) (id_at 15) (span_at s kept lens 15) address_good,
-        cid_piece (marked m 16) (id_at 16) (span_at s kept lens 16),
-        cid_piece (marked m 17) (id_at 17) (span_at s kept lens 17),
-        cid_piece (marked m 18) (id_at 18) (span_at s kept lens 18),
-        flag_piece (marked m 19) (id_at 19) (span_at s kept lens 19) (flag_good 19 refl),
-        number_piece (marked m 20) (id_at 20) (get_or kept 20 0),
+        token_piece (marked f.0 12) (id_at 12) (span_at s f 12),
+        flag_piece (marked f.0 13) (id_at 13) (span_at s f 13) (flag_good 13 refl),
+        number_piece (marked f.0 14) (id_at 14) (get_or f.1 14 0),
+        address_piece (marked f.0 15) (id_at 15) (span_at s f 15) address_good,
+        cid_piece (marked f.0 16) (id_at 16) (span_at s f 16),
+        cid_piece (marked f.0 17) (id_at 17) (span_at s f 17),
+        cid_piece (marked f.0 18) (id_at 18) (span_at s f 18),
+        flag_piece (marked f.0 19) (id_at 19) (span_at s f 19) (flag_good 19 refl),
+        number_piece (marked f.0 20) (id_at 20) (get_or f.1 20 0),
       )
       (unfold due_value in refl)
 
-  pub whole : joined (pieces s m kept lens) ≡ extension (record_from s f) catalogue_order
+  pub whole : joined (pieces s f) ≡ extension (record_from s f) catalogue_order
   unfolding pieces
   whole =
-      joined_append (each (number_at kept) 11) _
+      joined_append (each (number_at f.1) 11) _
       ∙ ap₂ (λ (a b : List ℕ). a ++ b) (ap joined (sym numbers_piece)) (sym others_piece)
       ∙ sym (joined_append (each (number_at (record_from s f).numbers) 11) (from11 (record_from s f) ++ from16 (record_from s f)))
       ∙ ap joined (all_due (record_from s f) formed)
       ∙ in_catalogue_order (record_from s f)
 
-  pub few : length (joined (pieces s m kept lens)) ≤ 314
+  pub few : length (joined (pieces s f)) ≤ 314
   few = rw whole (longest (record_from s f) catalogue_order formed in_catalogue)
 
-  pub within : Kept s kept lens
-  within = (sound side s f (sym e)).within
-
-  pub tidied_pieces : (out : List ℕ) → store (joined (pieces s m kept lens)) out ≡ tidy side s out
+  pub tidied_pieces : (out : List ℕ) → store (joined (pieces s f)) out ≡ tidy side s out
   tidied_pieces out = ap (λ (bs : List ℕ). store bs out) whole ∙ sym (tidied side s out (record_from s f) hb (read_recorded side s f e))
 
 pub not_read : (side : Side) (s out : List ℕ) (x : Fault) → refused x ≡ indexed side s

@@ -1,17 +1,14 @@
 -- What tidying writes, as it is found: from the numbers, and from where the values stand in the extension.
-use Rattle.std.specs.Prelude.{ℕ, ◌+◌, ◌-◌, ◌≤◌, List, ◌++◌, Bool, length, get_or, take, drop, ◌≡◌}
+use Rattle.std.specs.Prelude.{ℕ, ◌+◌, ◌-◌, List, ◌++◌, Bool, get_or, take, drop}
 use Rattle.marks.specs.Mark.{marked}
 use Rattle.catalogue.specs.Catalogue.{Kind, number, flag, cid, token, address, reserved, places, id_at, kind_at}
+use Rattle.index.specs.Index.{Found}
 use Rattle.wire.specs.Wire.{due_value, due_number, number_at}
 use Rattle.wire.specs.Stored.{each}
 
 -- where a value that is no number stands
-unfoldable pub span_at : List ℕ → List ℕ → List ℕ → ℕ → List ℕ
-span_at s kept lens p = take (get_or lens p 0) (drop (get_or kept p 0) s)
-
--- values that are no numbers lie within the extension
-abbrev pub Kept : List ℕ → List ℕ → List ℕ → Type 0
-Kept s kept lens = (p : ℕ) → (kind_at p ≡ number → ⊥) → get_or kept p 0 + get_or lens p 0 ≤ length s
+unfoldable pub span_at : List ℕ → Found → ℕ → List ℕ
+span_at s f p = take (get_or f.2 p 0) (drop (get_or f.1 p 0) s)
 
 -- what is due at a place, from what was found there: a number, or the value where it stands
 unfoldable pub piece_of : Kind → Bool → ℕ → ℕ → List ℕ → List ℕ
@@ -22,12 +19,12 @@ piece_of token due id x v = due_value due id v
 piece_of address due id x v = due_value due id v
 piece_of reserved due id x v = due_value due id v
 
-unfoldable pub piece_for : ℕ → List ℕ → ℕ → List ℕ → List ℕ → ℕ → List ℕ
-piece_for id s m kept lens p = piece_of (kind_at p) (marked m p) id (get_or kept p 0) (span_at s kept lens p)
+unfoldable pub piece_for : ℕ → List ℕ → Found → ℕ → List ℕ
+piece_for id s f p = piece_of (kind_at p) (marked f.0 p) id (get_or f.1 p 0) (span_at s f p)
 
 -- from place 12 on, and all of them
-unfoldable pub others : List ℕ → ℕ → List ℕ → List ℕ → List (List ℕ)
-others s m kept lens = each (λ i. piece_for (id_at (12 + i)) s m kept lens (12 + i)) (places - 12)
+unfoldable pub others : List ℕ → Found → List (List ℕ)
+others s f = each (λ i. piece_for (id_at (12 + i)) s f (12 + i)) (places - 12)
 
-unfoldable pub pieces : List ℕ → ℕ → List ℕ → List ℕ → List (List ℕ)
-pieces s m kept lens = each (number_at kept) 11 ++ others s m kept lens
+unfoldable pub pieces : List ℕ → Found → List (List ℕ)
+pieces s f = each (number_at f.1) 11 ++ others s f

@@ -11,26 +11,22 @@ ghost use Rattle.tidy.specs.Tidying.{tidy};
 ghost use Rattle.image.specs.Image.{record_from};
 ghost use Rattle.timing.specs.Timing.{code, code_of, last_of, counted, again, repeat, reads_of, written_from};
 
-use catalogue::NUMBERS;
 use record::TransportParameters;
 use refusal::Refusal;
 use rules::Side;
 
-// No count is as large.
+// No count is as large. The benchmark calls from C, which takes one number for either.
 const REFUSED: usize = 1 << 32;
 
 // A count, or what refuses.
 fn code_of(answer: Result<usize, Refusal>) -> usize
     ensures { result ≡ code_of (outcome_of answer) }
 {
-    match answer {
-        Ok(n) => n,
-        Err(refusal) => REFUSED + (refusal.number() as usize),
-    }
+    answer.unwrap_or_else(|refusal| REFUSED + usize::from(refusal.number()))
 }
 
-// Reading, and writing, have more than one caller here, so that the compiler keeps each a function of its own. Inlined, reading would leave
-// out what its caller does not look at, and writing could test the record once for all calls of a loop.
+// Reading has more than one caller here, and writing is marked, so that the compiler keeps each a function of its own. Inlined, reading would
+// leave out what its caller does not look at, and writing could test the record once for all calls of a loop.
 
 // 0, or the number of the refusal.
 fn read_once(src: &[u8]) -> u8
@@ -44,37 +40,34 @@ fn read_once(src: &[u8]) -> u8
 
 // Reads so many times, and gives what the last gave.
 #[unsafe(no_mangle)]
+#[tactic(auto, unfolding(crate::specs::Timing::last_of))]
 pub extern "C" fn timing_read(src: &[u8], times: usize) -> u8
     ensures { result ≡ last_of times (code (read Side.Client src.now)) }
 {
-    let mut last: u8 = 0;
-    let mut i: usize = 0;
-    while i < times {
+    let mut last = 0;
+    for _ in 0..times {
         last = read_once(src);
-        i += 1;
     }
     last
 }
 
 // The same for extensions of one size that stand one after another, from the first again after the last.
 #[unsafe(no_mangle)]
+#[tactic(auto, unfolding(crate::specs::Timing::read_next, crate::specs::Timing::reads_of))]
 pub extern "C" fn timing_reads(src: &[u8], size: usize, times: usize) -> u8
     ensures { result ≡ reads_of times size src.now }
 {
     if src.len() < size {
         return 0;
     }
-    let mut last: u8 = 0;
-    let mut at: usize = 0;
-    let mut i: usize = 0;
-    while i < times {
+    let mut last = 0;
+    let mut at = 0;
+    for _ in 0..times {
         if src.len() - at < size {
             at = 0;
         }
-        let end = at + size;
-        last = read_once(&src[at..end]);
-        at = end;
-        i += 1;
+        last = read_once(&src[at..at + size]);
+        at += size;
     }
     last
 }
@@ -83,10 +76,7 @@ pub extern "C" fn timing_reads(src: &[u8], size: usize, times: usize) -> u8
 fn record_read(src: &[u8]) -> TransportParameters
     ensures { result ≡ value_or default_record (read Side.Client src.now) }
 {
-    match reader::read(Side::Client, src) {
-        Ok(r) => r,
-        Err(_) => TransportParameters::default(),
-    }
+    reader::read(Side::Client, src).unwrap_or_default()
 }
 
 // The number at a place of it, 0 from place 11 on.
@@ -95,26 +85,23 @@ pub extern "C" fn timing_number(src: &[u8], place: usize) -> u64
     ensures { result ≡ get_or (value_or default_record (read Side.Client src.now)).numbers place 0 }
 {
     let numbers = record_read(src).numbers;
-    if NUMBERS <= place {
-        return 0;
-    }
-    numbers[place]
+    numbers.get(place).copied().unwrap_or(0)
 }
 
+#[inline(never)]
 fn write_once(r: TransportParameters, out: &mut [u8]) -> usize
     ensures { (result, out.new) ≡ counted (write r out.old) }
 {
     code_of(writer::write(r, out))
 }
 
+#[tactic(auto, unfolding(crate::specs::Timing::again))]
 fn write_times(r: TransportParameters, times: usize, out: &mut [u8]) -> usize
     ensures { (result, out.new) ≡ repeat times (again r) (0, out.old) }
 {
-    let mut answer: usize = 0;
-    let mut i: usize = 0;
-    while i < times {
+    let mut answer = 0;
+    for _ in 0..times {
         answer = write_once(r, out);
-        i += 1;
     }
     answer
 }
@@ -126,7 +113,7 @@ pub extern "C" fn timing_write(record: &[u8], times: usize, out: &mut [u8]) -> u
 {
     match imaged::record_from(record) {
         Ok(r) => write_times(r, times, out),
-        Err(refusal) => REFUSED + (refusal.number() as usize),
+        Err(refusal) => code_of(Err(refusal)),
     }
 }
 
@@ -135,10 +122,7 @@ pub extern "C" fn timing_write(record: &[u8], times: usize, out: &mut [u8]) -> u
 pub extern "C" fn timing_written(record: &[u8], out: &mut [u8]) -> usize
     ensures { (result, out.new) ≡ written_from (record_from «record».now) 1 out.old }
 {
-    match imaged::record_from(record) {
-        Ok(r) => write_once(r, out),
-        Err(refusal) => REFUSED + (refusal.number() as usize),
-    }
+    timing_write(record, 1, out)
 }
 
 #[unsafe(no_mangle)]

@@ -1,5 +1,5 @@
 -- What the tests of the code mean for the definitions: a value of each kind, the kind of a place, a second copy. Assumes nothing.
-use Prim.Native.Nat.{ℕ, zero, suc, ◌+◌, ◌*◌, ◌^◌, ◌≤◌, ◌<◌}
+use Prim.Native.Nat.{ℕ, ◌+◌, ◌*◌, ◌^◌, ◌≤◌, ◌<◌}
 use mathlib.Core.Path.{◌≡◌, refl, ap, sym, ◌∙◌}
 use mathlib.Core.List.{List, [], ◌∷◌}
 use mathlib.Core.Bool.{Bool, true, false, ◌&&◌, not}
@@ -7,11 +7,10 @@ use native.Mathlib.Omega.{arith}
 use native.Mathlib.Nat.{div-eq_of_lt, lt_of_lt_of_le}
 use lib.Pow.{pow_mono}
 use lib.ListN.{length, get_or, take, get_or-eq_default}
-use lib.Seq.{length-take-le}
+use lib.Seq.{take_all, length-take-le}
 use lib.Dec.{eqb, leb, ltb, leb-zero}
 use borrow.Author.Tests.{le-leb, lt-leb, eq-eqb, ne_eqb, eqb-true, eqb-false, leb-true, leb-false, ltb-true, ltb-false}
-use mir.Syntax.{w64}
-use mir.Val.{Fits}
+use mir.Val.{bool_byte}
 use Rattle.refusal.specs.Outcome.{Result, accepted, refused, pick, all}
 use Rattle.refusal.proofs.Laws.{all_at}
 use Rattle.varint.specs.Number.{read_number, read_wide}
@@ -226,14 +225,14 @@ module _ (a len x n : ℕ) (rest : List ℕ) (room : 8 ≤ length rest) (within 
       go false p true q = absurd (omega (arith, leb-false n len p, eqb-true len n q))
       go false p false q = refl
 
-  pub wide : (p i j t : ℕ) (b : Bool) (o : Result Fault ℕ) → is_simple (kind_at p) ≡ true → i ≡ pick (marked 0x1047ff p) 1 0 → j ≡ pick (marked 0x70000 p) 1 0 → t ≡ pick (eqb p 12) 1 0
+  pub wide : (p i j t : ℕ) (b : Bool) (o : Result Fault ℕ) → is_simple (kind_at p) ≡ true → i ≡ bool_byte (marked 0x1047ff p) → j ≡ bool_byte (marked 0x70000 p) → t ≡ bool_byte (eqb p 12)
       → b ≡ (leb (get_or (16 * t ∷ n ∷ []) i 0) len && leb len (get_or (16 * t ∷ n ∷ []) i 0 + 20 * j)) → o ≡ judged b (get_or (a ∷ x ∷ []) i 0) → o ≡ check_value p a (take len rest)
   unfolding illegal fits kept_of
   wide p i j t b o s ei ej et eb eo = eo ∙ rw (eb, ei, ej, et, number_told p, cid_told p, token_told p) (go (kind_at p) s)
     where
       go : (k : Kind) → is_simple k ≡ true
-          → judged (leb (get_or (16 * pick (is token k) 1 0 ∷ n ∷ []) (pick (is number k) 1 0) 0) len && leb len (get_or (16 * pick (is token k) 1 0 ∷ n ∷ []) (pick (is number k) 1 0) 0 + 20 * pick (is cid k) 1 0))
-          (get_or (a ∷ x ∷ []) (pick (is number k) 1 0) 0) ≡ check_kind k a (take len rest)
+          → judged (leb (get_or (16 * bool_byte (is token k) ∷ n ∷ []) (bool_byte (is number k)) 0) len && leb len (get_or (16 * bool_byte (is token k) ∷ n ∷ []) (bool_byte (is number k)) 0 + 20 * bool_byte (is cid k)))
+          (get_or (a ∷ x ∷ []) (bool_byte (is number k)) 0) ≡ check_kind k a (take len rest)
       go number s = number_wide
       go flag s = by_length a (take len rest) flag (leb 0 len && leb len 0) refl refl (exactly 0 len ∙ rw long)
       go cid s = by_length a (take len rest) cid (leb 0 len && leb len 20) refl refl (rw (long, leb-zero len))
@@ -241,35 +240,13 @@ module _ (a len x n : ℕ) (rest : List ℕ) (room : 8 ≤ length rest) (within 
       go address s = let z : ◌≡◌ {A = ℕ} 0 1 = cc in absurd (omega arith)
       go reserved s = let z : ◌≡◌ {A = ℕ} 0 1 = cc in absurd (omega arith)
 
--- what is made of 0 or 1 fits
-module _ (b : ℕ) (h : b < 2) where
-  pub fits_8 : Fits w64 (b * 8)
-  fits_8 = record { fits = omega arith }
-
-  pub fits_16 : Fits w64 (16 * b)
-  fits_16 = record { fits = omega arith }
-
-  pub fits_20 : Fits w64 (20 * b)
-  fits_20 = record { fits = omega arith }
-
-pub fits_longest : (t n i j : ℕ) → t < 2 → n ≤ 8 → i < 2 → j < 2 → Fits w64 (get_or (16 * t ∷ n ∷ []) i 0 + 20 * j)
-fits_longest t n zero j ht hn hi hj = record { fits = omega arith }
-fits_longest t n (suc zero) j ht hn hi hj = record { fits = omega arith }
-fits_longest t n (suc (suc i)) j ht hn hi hj = absurd (omega arith)
-
 -- A VALUE FOR A PLACE
 pub for_place : (p : ℕ) (k : Kind) (a : ℕ) (v : List ℕ) (o : Result Fault ℕ) → kind_at p ≡ k → o ≡ check_kind k a v → o ≡ check_value p a v
 for_place p k a v o e h = rw e h
 
--- a place that was met, or not
-module _ (p a : ℕ) (v : List ℕ) (met : Bool) where
-  pub second_copy : met ≡ true → refused SecondCopy ≡ receive_value met p a v
-  unfolding receive_value
-  second_copy e = rw e
-
-  pub no_copy : met ≡ false → receive_value met p a v ≡ check_value p a v
-  unfolding receive_value
-  no_copy e = rw e
+-- no more than there is
+pub all_there : (p a n : ℕ) (v : List ℕ) → length v < n → check_value p a (take n v) ≡ check_value p a v
+all_there p a n v h = ap (check_value p a) (take_all n v (omega arith))
 
 -- WHAT A VALUE THAT WAS RECEIVED IS
 pub record Taken (p a : ℕ) (v : List ℕ) (x : ℕ) : Type 0 where

@@ -3,7 +3,6 @@
 #![tactic(auto)]
 
 ghost use Rattle.std.specs.Prelude.{◌≡◌, true, ◌≤◌, ◌<◌, length, take};
-ghost use Rattle.refusal.specs.Outcome.{pick};
 ghost use Rattle.catalogue.specs.Catalogue.{number, address, kind_at};
 ghost use Rattle.value.specs.Value.{is_simple, check_kind, check_value, receive_value};
 ghost use Rattle.front.specs.Answer.{fault_outcome};
@@ -17,9 +16,9 @@ use front::Fault;
 use marks::is_marked;
 use record::ResetToken;
 use varint::VarInt;
-use words::{all_zero, and};
 
 // A number that uses exactly its bytes.
+#[tactic(auto, using(crate::proofs::Checks::number_unread, crate::proofs::Checks::number_read_lem))]
 fn check_number(start: usize, v: &[u8]) -> Result<u64, Fault>
     ensures { fault_outcome result ≡ check_kind number start v.now }
 {
@@ -30,13 +29,14 @@ fn check_number(start: usize, v: &[u8]) -> Result<u64, Fault>
 }
 
 // A preferred address: both families absent is found before leftover bytes.
+#[tactic(auto, using(crate::proofs::Checks::address_none, crate::proofs::Checks::address_id, crate::proofs::Checks::address_short))]
 fn check_address(start: usize, v: &[u8]) -> Result<u64, Fault>
     ensures { fault_outcome result ≡ check_kind address start v.now }
 {
     if v.len() < 25 {
         return Err(Fault::Misfit);
     }
-    let n = v[24] as usize;
+    let n = usize::from(v[24]);
     if ConnectionId::MAX_SIZE < n {
         return Err(Fault::Misfit);
     }
@@ -44,7 +44,7 @@ fn check_address(start: usize, v: &[u8]) -> Result<u64, Fault>
     if v.len() < end {
         return Err(Fault::Misfit);
     }
-    if all_zero(&v[0..24]) {
+    if v[..24].iter().all(|b| *b == 0) {
         return Err(Fault::Illegal);
     }
     fits_if(v.len() == end, start as u64)
@@ -53,31 +53,24 @@ fn check_address(start: usize, v: &[u8]) -> Result<u64, Fault>
 fn fits_if(test: bool, kept: u64) -> Result<u64, Fault>
     ensures { fault_outcome result ≡ judged test kept }
 {
-    if test { Ok(kept) } else { Err(Fault::Misfit) }
-}
-
-// 1 or 0. What it indexes is chosen with no branch.
-fn bit(test: bool) -> usize
-    ensures { (result ≡ pick test 1 0) × (result < 2) }
-{
-    if test { 1 } else { 0 }
+    test.then_some(kept).ok_or(Fault::Misfit)
 }
 
 // A value for a simple place: a number is as long as it says, a token 16, a connection ID up to 20, a flag none. Parameters come in any order,
-// so there is no branch on the kind.
+// so there is no branch on the kind: what depends on it is taken from arrays of two, by a test as 0 or 1.
 fn check_wide(place: usize, start: usize, len: usize, rest: &[u8]) -> Result<u64, Fault>
     requires { (8 ≤ length rest.now) × (len ≤ length rest.now) × (is_simple (kind_at place) ≡ true) }
     ensures { fault_outcome result ≡ check_value place start (take len rest.now) }
 {
-    let number = VarInt::decode_wide(rest);
-    let is_number = bit(is_marked(NUMBER_PLACES, place));
-    let is_cid = bit(is_marked(CID_PLACES, place));
-    let is_token = bit(place == STATELESS_RESET_TOKEN);
-    let least = [ResetToken::SIZE * is_token, number.1];
-    let kept = [start as u64, number.0];
+    let (x, n) = VarInt::decode_wide(rest);
+    let is_number = usize::from(is_marked(NUMBER_PLACES, place));
+    let is_cid = usize::from(is_marked(CID_PLACES, place));
+    let is_token = usize::from(place == STATELESS_RESET_TOKEN);
+    let least = [ResetToken::SIZE * is_token, n];
+    let kept = [start as u64, x];
     let shortest = least[is_number];
     let longest = shortest + ConnectionId::MAX_SIZE * is_cid;
-    fits_if(and(shortest <= len, len <= longest), kept[is_number])
+    fits_if((shortest <= len) & (len <= longest), kept[is_number])
 }
 
 // A value for a place: there is none for the reserved parameter's place, nor beyond the last.
@@ -103,21 +96,21 @@ fn check_narrow(place: usize, start: usize, v: &[u8]) -> Result<u64, Fault>
 }
 
 // The value of `len` bytes at the front of `rest`, or of all that is there.
+#[tactic(auto, using(crate::proofs::Checks::simple_told, crate::proofs::Checks::all_there))]
 fn check_value(place: usize, start: usize, len: usize, rest: &[u8]) -> Result<u64, Fault>
     ensures { fault_outcome result ≡ check_value place start (take len rest.now) }
 {
     if rest.len() < len {
         return check_narrow(place, start, rest);
     }
-    if VarInt::MAX_SIZE <= rest.len() {
-        if is_marked(SIMPLE_PLACES, place) {
-            return check_wide(place, start, len, rest);
-        }
+    if VarInt::MAX_SIZE <= rest.len() && is_marked(SIMPLE_PLACES, place) {
+        return check_wide(place, start, len, rest);
     }
     check_narrow(place, start, &rest[..len])
 }
 
 // A value for a place, which was met before or not: `len` bytes at the front of `rest`, which starts at `start` of the extension.
+#[tactic(auto, unfolding(crate::specs::Value::receive_value))]
 pub fn receive(met: bool, place: usize, start: usize, len: usize, rest: &[u8]) -> Result<u64, Fault>
     ensures { fault_outcome result ≡ receive_value met place start (take len rest.now) }
 {

@@ -1,37 +1,27 @@
 -- Laws of the tag, and of the forms at every width. Assumes nothing.
 use Prim.Native.Nat.{ℕ, zero, suc, ◌+◌, ◌-◌, ◌*◌, ◌/◌, ◌%◌, ◌^◌, ◌≤◌, ◌<◌}
 use mathlib.Core.Path.{◌≡◌, refl, ap, ap₂, sym, ◌∙◌}
-use mathlib.Core.List.{List, [], ◌∷◌}
-use native.Mathlib.Nat.{mod-eq_of_lt, div-lt_iff_lt-mul}
+use mathlib.Core.List.{List, [], ◌∷◌, ◌++◌}
+use native.Mathlib.Nat.{div-lt_iff_lt-mul, mul_comm, mul_assoc, add-mul-div_left}
 use native.Mathlib.Omega.{arith}
-use lib.ListN.{length, get_or, take, drop}
-use lib.Seq.{sets, sets-eq}
+use lib.ListN.{length, get_or, take, drop, replicate, length-append, length-replicate}
+use lib.Seq.{sets, sets-eq, take_all, drop-drop}
+use Rattle.std.proofs.Common.{append-nil}
+use Rattle.std.proofs.lemmas.List.{take-replicate}
+use Rattle.std.specs.Int.{w64, from_be_bytes}
 use lib.Dec.{leb}
-use lib.Bits.{bit_or, or_shifted}
+use lib.Bits.{bit_or, bit_and, or_shifted, and_mask}
 use borrow.Author.Tests.{ltb-true, ltb-false, lt-ltb, le-ltb, le-leb, lt-leb}
 use Rattle.refusal.specs.Outcome.{accepted, refused, pick, front}
 use Rattle.refusal.proofs.Laws.{pick_cases}
 use Rattle.varint.specs.Number.{tag_of, form, number_bytes, read_number}
-use Rattle.words.specs.Words.{value_from, bytes_of, copied}
-use Rattle.words.proofs.Copied.{copied_whole}
+use Rattle.words.specs.Words.{value_from, bytes_of}
 use Rattle.words.proofs.Big.{pow_pos, length_bytes_of, bytes_above, gathered, value_gathered}
-
--- a byte with the tag k
-pub tagged : (k x : ℕ) → k ≤ 3 → x < 64 → bit_or (k * 64) x % 256 ≡ k * 64 + x
-tagged k x hk hx = rw (or_shifted k 6 x hx) (mod-eq_of_lt (omega arith))
 
 -- bytes stored one after another from the front on
 pub stored : (vs out : List ℕ) → length vs ≤ length out → sets out 0 vs ≡ front vs out
 unfolding front
 stored vs out h = let e : 0 + length vs ≡ length vs = omega arith in rw e at (sets-eq vs out 0 (omega arith))
-
--- the form of tag 3 is a word
-pub word_stored : (x : ℕ) (out m : List ℕ) → x < 2 ^ 62 → 8 ≤ length out → m ≡ copied (bytes_of 8 (bit_or (3 * 2 ^ 62) x)) out → m ≡ front (form 3 x) out
-unfolding form
-word_stored x out m h l e =
-    let s : 3 * 2 ^ 62 + x ≡ x + 256 ^ 7 * 192 = omega arith in
-    let f : bytes_of 8 (bit_or (3 * 2 ^ 62) x) ≡ form 3 x = rw (or_shifted 3 62 x h, s) (ap₂ ◌∷◌ (omega arith) (bytes_above 7 192 x)) in
-    e ∙ copied_whole _ out l ∙ ap (λ (bs : List ℕ). front bs out) f
 
 pub tag_cases : (v : ℕ) (P : ℕ → Type 0) → (v < 2 ^ 6 → P 0) → (2 ^ 6 ≤ v → v < 2 ^ 14 → P 1) → (2 ^ 14 ≤ v → v < 2 ^ 30 → P 2)
     → (2 ^ 30 ≤ v → P 3) → P (tag_of v)
@@ -74,13 +64,6 @@ length_form k v h = let r = width_range k h in rw length_bytes_of (omega arith)
 pub high_lt : (n v : ℕ) → v < 64 * 256 ^ n → v / 256 ^ n < 64
 high_lt n v h = (div-lt_iff_lt-mul (pow_pos n)).1 h
 
--- the bytes of a form, stored one after another
-pub form_stored : (k v : ℕ) (out : List ℕ) → k ≤ 3 → v < 64 * 256 ^ (2 ^ k - 1) → 2 ^ k ≤ length out
-    → sets out 0 (bit_or (k * 64) (v / 256 ^ (2 ^ k - 1)) % 256 ∷ bytes_of (2 ^ k - 1) v) ≡ front (form k v) out
-unfolding form
-form_stored k v out h l r =
-    rw (tagged k (v / 256 ^ (2 ^ k - 1)) h (high_lt _ v l)) (stored (form k v) out (omega (arith, length_form k v h)))
-
 pub read_none : (s : List ℕ) → length s ≡ 0 → refused 3 ≡ read_number s
 unfolding read_number
 read_none [] h = refl
@@ -106,6 +89,34 @@ module _ (s : List ℕ) (k : ℕ) (h : 0 < length s) (e : k ≡ get_or s 0 0 / 6
       rw (le-leb (2 ^ k) (length s) l, m, q) at read_some
       ∙ ap (λ v. accepted (v, suc n)) (value_gathered n 1 (get_or s 0 0 % 64) s (omega arith))
 
+-- a form of k's size, and the bytes of a word of which it is the low end
+module _ (s : List ℕ) (hs : (i : ℕ) → get_or s i 0 < 256) (h : 0 < length s) where
+  pub read_sized : (k v : ℕ) → k ≤ 3 → k ≡ get_or s 0 0 / 64 → 2 ^ k ≤ length s → v ≡ value_from 0 (take (2 ^ k) s)
+      → accepted (bit_and v ((2 ^ 62 - 1) / 2 ^ (64 - 8 * 2 ^ k)), 2 ^ k) ≡ read_number s
+  read_sized k v hk =
+      four k (λ k. k ≡ get_or s 0 0 / 64 → 2 ^ k ≤ length s → v ≡ value_from 0 (take (2 ^ k) s) → accepted (bit_and v ((2 ^ 62 - 1) / 2 ^ (64 - 8 * 2 ^ k)), 2 ^ k) ≡ read_number s) hk
+      (λ e l q. ap (λ x. accepted (x, 1)) (omega (arith, q, value_gathered 1 0 0 s l, and_mask v 6)) ∙ sym (read_whole s 0 h e l 0 refl))
+      (λ e l q. ap (λ x. accepted (x, 2)) (omega (arith, q, value_gathered 2 0 0 s l, and_mask v 14, hs 0, hs 1)) ∙ sym (read_whole s 1 h e l 1 refl))
+      (λ e l q. ap (λ x. accepted (x, 4)) (omega (arith, q, value_gathered 4 0 0 s l, and_mask v 30, hs 0, hs 1, hs 2, hs 3)) ∙ sym (read_whole s 2 h e l 3 refl))
+      (λ e l q. ap (λ x. accepted (x, 8)) (omega (arith, q, value_gathered 8 0 0 s l, and_mask v 62, hs 0, hs 1, hs 2, hs 3, hs 4, hs 5, hs 6, hs 7)) ∙ sym (read_whole s 3 h e l 7 refl))
+
+value_zeros : (n : ℕ) (l : List ℕ) → value_from 0 (replicate n 0 ++ l) ≡ value_from 0 l
+value_zeros zero l = refl
+value_zeros (suc n) l = value_zeros n l
+
+-- eight bytes, of which the last n are l
+abbrev eight : List ℕ
+eight = replicate 8 0
+
+pub low_end : (n r : ℕ) (l : List ℕ) → n ≤ 8 → length l ≡ n → r ≡ from_be_bytes w64 (take (8 - n) eight ++ (l ++ drop (8 - (8 - n)) (drop (8 - n) eight))) → r ≡ value_from 0 l
+low_end n r l h e q =
+    let d : 8 - n + (8 - (8 - n)) ≡ 8 = omega arith in
+    let z : take (8 - n) eight ≡ replicate (8 - n) 0 = take-replicate (8 - n) 8 0 (omega arith) in
+    go (replicate (8 - n) 0 ++ l) (simp (length-append, length-replicate) (omega arith)) (rw (drop-drop, d, append-nil, z) at q) ∙ value_zeros (8 - n) l
+  where
+    go : (b : List ℕ) → length b ≡ 8 → r ≡ from_be_bytes w64 b → r ≡ value_from 0 b
+    go b k p = omega (arith, p, rw (take_all 8 b (omega arith)) at (value_gathered 8 0 0 b (omega arith)))
+
 -- the tests of the code pick the tag
 pub tag_0 : (v : ℕ) → v < 2 ^ 6 → tag_of v ≡ 0
 unfolding tag_of
@@ -126,16 +137,36 @@ tag_3 v l =
     let n : 2 ^ 14 ≤ v = omega arith in
     simp (le-ltb _ _ m, le-ltb _ _ n, le-ltb _ _ l)
 
+-- the tag k above the n bytes below the first, and the first byte's bits
+tagged_word : (k n v : ℕ) → (v / 256 ^ n + k * 64 < 256) → bit_or (k * (64 * 256 ^ n)) v ≡ k * (64 * 256 ^ n) + v
+    → bytes_of (suc n) (bit_or (k * (64 * 256 ^ n)) v) ≡ (k * 64 + v / 256 ^ n) ∷ bytes_of n v
+tagged_word k n v h e =
+    let s : k * (64 * 256 ^ n) + v ≡ v + 256 ^ n * (k * 64) = rw (mul_comm (256 ^ n) (k * 64), mul_assoc) (omega arith) in
+    rw (e, s) (ap₂ ◌∷◌ (rw (add-mul-div_left v (k * 64) (pow_pos n)) (omega arith)) (bytes_above n (k * 64) v))
+
+pub one_byte : (v : ℕ) → v < 64 → v ∷ [] ≡ bytes_of 1 (bit_or (0 * 2 ^ 6) v)
+one_byte v h = rw (or_shifted 0 6 v h) (ap (λ b. b ∷ []) (omega arith))
+
 -- the shortest form has a known tag
 module _ (v k : ℕ) (e : tag_of v ≡ k) where
   pub size_at_lem : length (number_bytes v) ≡ 2 ^ k
   size_at_lem = rw e (length_form k v (rw e at (tag_le v)))
 
-  pub sized : (out : List ℕ) → length (number_bytes v) ≤ length out → 2 ^ k ≤ length out
-  sized out h = rw size_at_lem at h
+  -- the form is the bytes of a number, with the tag above it
+  form_word : v < 2 ^ 62 → bytes_of (2 ^ k) (bit_or (k * 2 ^ (8 * 2 ^ k - 2)) v) ≡ number_bytes v
+  unfolding form
+  form_word h =
+      rw e
+      (four k (λ k. v < 64 * 256 ^ (2 ^ k - 1) → bytes_of (2 ^ k) (bit_or (k * 2 ^ (8 * 2 ^ k - 2)) v) ≡ form k v) (rw e at (tag_le v))
+      (λ l. tagged_word 0 0 v (omega arith) (or_shifted 0 6 v l))
+      (λ l. tagged_word 1 1 v (omega arith) (or_shifted 1 14 v l))
+      (λ l. tagged_word 2 3 v (omega arith) (or_shifted 2 30 v l))
+      (λ l. tagged_word 3 7 v (omega arith) (or_shifted 3 62 v l))
+      (rw e at (tag_room v h)))
 
-  pub whole : (out out' : List ℕ) → out' ≡ front (form k v) out → (2 ^ k ≡ length (number_bytes v)) × (out' ≡ front (number_bytes v) out)
-  whole out out' h = (sym size_at_lem, h ∙ rw e)
+  pub stored_form : (bytes out m : List ℕ) (n : ℕ) → v < 2 ^ 62 → bytes ≡ bytes_of (2 ^ k) (bit_or (k * 2 ^ (8 * 2 ^ k - 2)) v) → (n ≡ 2 ^ k) × (m ≡ front bytes out)
+      → (n ≡ length (number_bytes v)) × (m ≡ front (number_bytes v) out)
+  stored_form bytes out m n h b s = (s.0 ∙ sym size_at_lem, s.1 ∙ ap (λ (x : List ℕ). front x out) (b ∙ form_word h))
 
 -- how many bytes the shortest form has
 pub size_1 : (v : ℕ) → v < 64 → length (number_bytes v) ≡ 1

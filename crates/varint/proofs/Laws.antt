@@ -3,6 +3,7 @@
 --     number_append         more bytes change nothing
 --     read_take             nor do fewer, as long as the number is there
 --     read_bounds           what is read is below 2 ^ 62, lies within the bytes, and is no shorter than the shortest form
+--     write_refused, write_sized     what a number's size says of writing it
 use Prim.Native.Nat.{ℕ, zero, suc, ◌-◌, ◌*◌, ◌/◌, ◌%◌, ◌^◌, ◌≤◌, ◌<◌}
 use mathlib.Core.Path.{◌≡◌, refl, ap}
 use mathlib.Core.List.{List, [], ◌∷◌, ◌++◌}
@@ -13,13 +14,14 @@ use lib.ListN.{length, get_or, take, length-append, length-take}
 use lib.Seq.{take_at, take-take, take-append-le, length-take-le}
 use lib.Pow.{pow_mono, pow_pos}
 use lib.Arith.{digits_div, digits_mod}
-use lib.Dec.{leb}
-use borrow.Author.Tests.{le-leb, lt-leb, leb-true, leb-false}
-use Rattle.varint.specs.Number.{tag_of, form, number_bytes, read_number}
+use lib.Dec.{leb, ltb}
+use borrow.Author.Tests.{le-leb, lt-leb, leb-true, leb-false, ltb-true}
+use Rattle.varint.specs.Number.{bound, tag_of, form, number_bytes, read_number, write_number, size_number}
 use Rattle.words.specs.Words.{value_from, bytes_of}
-use Rattle.refusal.specs.Outcome.{Outcome, accepted, refused, pick}
+use Rattle.refusal.specs.Outcome.{Outcome, accepted, refused, pick, store}
 use Rattle.refusal.proofs.Laws.{picked}
 use Rattle.varint.proofs.Bytes.{high_lt, four, width_range, length_form, tag_le, tag_room, tag_least}
+use Rattle.words.proofs.Laws.{bytes_take}
 use Rattle.words.proofs.Big.{length_bytes_of, value_bytes_of, value_lt}
 
 -- at every width that has room, longer than needed or not
@@ -94,12 +96,6 @@ read_take (suc m) (b ∷ bs) x n e =
             let i : suc (length (take m bs)) < w = omega (arith, length-take m bs, leb-false n (suc m) e) in
             rw (lt-leb _ _ i)
 
-pub bytes_take : (n : ℕ) (bs : List ℕ) → ((i : ℕ) → get_or bs i 0 < 256) → (i : ℕ) → get_or (take n bs) i 0 < 256
-bytes_take zero bs h i = omega arith
-bytes_take (suc n) [] h i = omega arith
-bytes_take (suc n) (b ∷ bs) h zero = h 0
-bytes_take (suc n) (b ∷ bs) h (suc i) = bytes_take n bs (λ j. h (suc j)) i
-
 -- of a tag k, with w what is read behind it and m bytes in all
 bounds : (k w m v n : ℕ) (t : Bool) → k ≤ 3 → leb (2 ^ k) m ≡ t → (2 ^ k ≤ m → w < 64 * 256 ^ (2 ^ k - 1))
     → pick {A = Outcome (ℕ × ℕ)} t (accepted (w, 2 ^ k)) (refused 3) ≡ accepted (v, n) → (v < 2 ^ 62) × (n ≤ m) × (length (number_bytes v) ≤ n)
@@ -126,3 +122,21 @@ read_bounds (b ∷ bs) v n hs e =
     let m = 2 ^ (b / 64) - 1 in
     let t : length (take m bs) ≡ m = length-take-le m bs (omega arith) in
     rw t at (value_lt (take m bs) (b % 64) 64 (bytes_take m bs (λ i. hs (suc i))) (omega arith))) e
+
+-- what a number's size says of writing it
+pub write_refused : (v : ℕ) (out : List ℕ) (e : ℕ) → refused e ≡ size_number v → (refused e, out) ≡ write_number v out
+unfolding size_number write_number
+write_refused v out e = go (ltb v bound) refl
+  where
+    go : (t : Bool) → ltb v bound ≡ t → refused e ≡ pick {A = Outcome ℕ} t (accepted (length (number_bytes v))) (refused 4)
+        → ◌≡◌ {A = Outcome ℕ × List ℕ} (refused e, out) (pick t (store (number_bytes v) out) (refused 4, out))
+    go true h q = let z : ◌≡◌ {A = ℕ} 0 1 = cc in absurd (omega arith)
+    go false h q = ap (λ (o : Outcome ℕ). (o, out)) q
+
+pub write_sized : (v n : ℕ) → accepted n ≡ size_number v → (v < 2 ^ 62) × (n ≡ length (number_bytes v))
+unfolding size_number
+write_sized v n = go (ltb v bound) refl
+  where
+    go : (t : Bool) → ltb v bound ≡ t → accepted n ≡ pick {A = Outcome ℕ} t (accepted (length (number_bytes v))) (refused 4) → (v < 2 ^ 62) × (n ≡ length (number_bytes v))
+    go true h q = (ltb-true v bound h, cc)
+    go false h q = let z : ◌≡◌ {A = ℕ} 0 1 = cc in absurd (omega arith)

@@ -12,7 +12,8 @@ use Rattle.words.specs.Words.{value_from, bytes_of}
 use Rattle.words.proofs.Big.{value_bytes_of, take_bytes_of, bytes_value}
 use Rattle.varint.specs.Number.{read_number, read_wide}
 use Rattle.varint.proofs.Bytes.{four}
-use Rattle.varint.proofs.Laws.{number_append, bytes_take}
+use Rattle.varint.proofs.Laws.{number_append}
+use Rattle.words.proofs.Laws.{bytes_take}
 
 -- the bits of a number with the tag k
 pub bits_range : (k : ℕ) → k ≤ 3 → (8 ≤ 8 * 2 ^ k % 2 ^ 32) × (8 * 2 ^ k % 2 ^ 32 ≤ 64) × (1 * 2 ^ k % 2 ^ 64 ≤ 8)

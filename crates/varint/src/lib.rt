@@ -4,12 +4,12 @@
 ghost use Rattle.std.specs.Prelude.{◌≡◌, ◌/◌, ◌^◌, ◌<◌, ◌≤◌, length, get_or};
 ghost use Rattle.refusal.specs.Outcome.{accepted, front};
 ghost use Rattle.words.specs.Words.{bytes_of};
-ghost use Rattle.varint.specs.Number.{form, number_bytes, read_number, read_wide, write_number, convert_number, size_number};
+ghost use Rattle.varint.specs.Number.{number_bytes, read_number, read_wide, write_number, convert_number, size_number};
 ghost use Rattle.varint.specs.Answer.{convert_outcome};
 ghost use Rattle.refusal.specs.Answer.{outcome_of};
 
 use refusal::Refusal;
-use words::{big8, low, put_word, wide, word2, word4};
+use words::bytes_at;
 
 #[derive(Clone, Copy, Debug, PartialEq, Eq)]
 pub struct VarInt(pub u64);
@@ -65,13 +65,13 @@ impl VarInt {
     pub fn decode(src: &[u8]) -> Result<(u64, usize), Refusal>
         ensures { outcome_of result ≡ read_number src.now }
     {
-        if src.len() == 0 {
+        if src.is_empty() {
             return Err(Refusal::UnexpectedEnd);
         }
         let b = src[0];
         let tag = b >> 6;
         if tag == 0 {
-            return Ok((wide(b), 1));
+            return Ok((u64::from(b), 1));
         }
         decode_longer(tag, src)
     }
@@ -83,21 +83,18 @@ impl VarInt {
         if src.len() < VarInt::MAX_SIZE {
             return (0, 0);
         }
-        wide_of(big8(src))
+        wide_of(u64::from_be_bytes(bytes_at(src, 0)))
     }
 
     // Writes the shortest form to the front of `out`.
     pub fn encode(self, out: &mut [u8]) -> Result<usize, Refusal>
         ensures { (outcome_of result, out.new) ≡ write_number self.0 out.old }
     {
-        let x = self.0;
-        if VarInt::MAX.0 < x {
-            return Err(Refusal::VarIntBoundsExceeded);
-        }
-        if out.len() < size_of(x) {
+        let size = self.size()?;
+        if out.len() < size {
             return Err(Refusal::BufferTooShort);
         }
-        Ok(put(x, out))
+        Ok(put(self.0, out))
     }
 }
 
@@ -131,69 +128,51 @@ fn decode_longer(tag: u8, src: &[u8]) -> Result<(u64, usize), Refusal>
     requires { (0 < length src.now) × (tag ≡ get_or src.now 0 0 / 64) × (0 < tag) }
     ensures { outcome_of result ≡ read_number src.now }
 {
-    let high = src[0] & 0x3f;
-    if tag == 1 {
-        if src.len() < 2 {
-            return Err(Refusal::UnexpectedEnd);
-        }
-        return Ok((word2(src[1], high), 2));
+    match tag {
+        1 => read_form::<2>(src),
+        2 => read_form::<4>(src),
+        _ => read_form::<8>(src),
     }
-    if tag == 2 {
-        if src.len() < 4 {
-            return Err(Refusal::UnexpectedEnd);
-        }
-        return Ok((word4(src[3], src[2], src[1], high), 4));
-    }
-    if src.len() < 8 {
+}
+
+// The number at the front, whose form has N bytes. The tag is no part of it.
+fn read_form<const N: usize>(src: &[u8]) -> Result<(u64, usize), Refusal>
+    requires { (0 < N) × (N ≤ 8) × (0 < length src.now) × (N ≡ 2 ^ (get_or src.now 0 0 / 64)) }
+    ensures { outcome_of result ≡ read_number src.now }
+{
+    if src.len() < N {
         return Err(Refusal::UnexpectedEnd);
     }
-    let upper = word4(src[3], src[2], src[1], high);
-    Ok(((upper << 32) | word4(src[7], src[6], src[5], src[4]), 8))
+    let mut bytes = [0u8; 8];
+    bytes[8 - N..].copy_from_slice(&src[..N]);
+    Ok((
+        u64::from_be_bytes(bytes) & (VarInt::MAX.0 >> (64 - 8 * N)),
+        N,
+    ))
 }
 
-// Each stores one form of `x`, for which there is room.
-fn put1(x: u64, out: &mut [u8])
-    requires { (x < 64) × (0 < length out.old) }
-    ensures { out.new ≡ front (form 0 x) out.old }
+// Stores bytes, for which there is room, at the front, and gives their number.
+fn store<const N: usize>(bytes: [u8; N], out: &mut [u8]) -> usize
+    requires { N ≤ length out.old }
+    ensures { (result ≡ N) × (out.new ≡ front bytes.entry out.old) }
 {
-    out[0] = low(x);
-}
-
-fn put2(x: u64, out: &mut [u8])
-    requires { (x < 2 ^ 14) × (1 < length out.old) }
-    ensures { out.new ≡ front (form 1 x) out.old }
-{
-    out[0] = low((1 << 6) | (x >> 8));
-    out[1] = low(x);
-}
-
-fn put4(x: u64, out: &mut [u8])
-    requires { (x < 2 ^ 30) × (3 < length out.old) }
-    ensures { out.new ≡ front (form 2 x) out.old }
-{
-    out[0] = low((2 << 6) | (x >> 24));
-    out[1] = low(x >> 16);
-    out[2] = low(x >> 8);
-    out[3] = low(x);
+    out[..N].copy_from_slice(&bytes);
+    N
 }
 
 // Stores the shortest form, for which there is room, and gives its length.
+#[tactic(auto, using(crate::proofs::Bytes::size_1, crate::proofs::Bytes::size_2, crate::proofs::Bytes::size_4, crate::proofs::Bytes::size_8))]
 fn put(x: u64, out: &mut [u8]) -> usize
     requires { (x < 2 ^ 62) × (length (number_bytes x) ≤ length out.old) }
     ensures { (result ≡ length (number_bytes x)) × (out.new ≡ front (number_bytes x) out.old) }
 {
-    if x < 64 {
-        put1(x, out);
-        return 1;
+    if x < 1 << 6 {
+        store([x as u8], out)
+    } else if x < 1 << 14 {
+        store(((1 << 14) | x as u16).to_be_bytes(), out)
+    } else if x < 1 << 30 {
+        store(((2 << 30) | x as u32).to_be_bytes(), out)
+    } else {
+        store(((3 << 62) | x).to_be_bytes(), out)
     }
-    if x < 16384 {
-        put2(x, out);
-        return 2;
-    }
-    if x < 1073741824 {
-        put4(x, out);
-        return 4;
-    }
-    put_word((3 << 62) | x, out);
-    VarInt::MAX_SIZE
 }

@@ -1,12 +1,13 @@
 -- Laws of `put`, and of the parameters that are due. Assumes nothing.
 --     put_whole, put_none, put_nil    with room, without, and of no bytes
---     copied, put_copied        bytes copied one at a time
+--     put_copied                bytes copied
 --     put_wrote, stored         with room for the most there can be, a writer leaves what is due
 --     put_within, put_behind    never more than the buffer holds
 --     encoded, declined         what writing a number gives
 --     not_due, is_due, number_not_due, number_is_due    a parameter that is due or not
---     short_none, short_whole, number_none, number_declined, number_whole    identifiers and lengths of one byte
---     head_first, head_second, head_whole, long_nothing, long_none, long_whole    and of any
+--     value_off, number_off     of one that is not, nothing is stored
+--     short_none, short_whole, short_put, number_none, number_few, number_declined, number_whole    identifiers and lengths of one byte
+--     head_first, head_second, head_whole, long_nothing, long_head, long_none, long_whole    and of any
 use Prim.Native.Nat.{ℕ, ◌+◌, ◌≤◌, ◌<◌}
 use mathlib.Core.List.{List, [], ◌∷◌, ◌++◌, append_assoc}
 use mathlib.Core.Option.{none, some}
@@ -14,19 +15,18 @@ use mathlib.Core.Path.{◌≡◌, refl, ap, ap₂, sym, ◌∙◌}
 use mathlib.Core.Bool.{Bool, true, false, ◌&&◌}
 use native.Mathlib.Omega.{arith}
 use native.Mathlib.Nat.{zero-add, div-one}
-use native.Mathlib.Numerals.{add-one}
-use lib.ListN.{length, get_or, take, drop, set, length-append, length-take}
-use lib.Seq.{take-append_seam, paste, paste-suc}
+use lib.ListN.{length, take, drop, set, length-append, length-take}
+use lib.Seq.{take-append_seam}
 use lib.Dec.{ltb, leb}
 use borrow.Author.Tests.{lt-ltb, le-ltb, le-leb, lt-leb, ltb-true, ltb-false, leb-true, leb-false}
 use Rattle.refusal.specs.Outcome.{Outcome, accepted, refused, pick, front, store}
 use Rattle.varint.specs.Number.{bound, form, tag_of, number_bytes, write_number}
 use Rattle.varint.proofs.Bytes.{tag_0, tag_le, length_form, width_range}
 use Rattle.catalogue.specs.Catalogue.{parameter, parameter_if}
-use Rattle.wire.specs.Wire.{put, head_of, due_value, due_number}
+use Rattle.wire.specs.Wire.{put, head_of, Headed, due_value, due_number}
 use Rattle.wire.specs.Stored.{Wrote}
 use Rattle.words.proofs.Laws.{and-true}
-use Rattle.wire.proofs.Stored.{lent, back, whole, back_same, length_lent, front_nil, front_paste, front_then, front_two, length_front, behind}
+use Rattle.wire.proofs.Stored.{lent, back, whole, back_same, length_lent, front_nil, front_then, front_two, length_front, behind}
 
 -- STORING
 pub put_whole : (n : ℕ) (bs out m : List ℕ) → length bs ≤ length out → n ≡ length bs → m ≡ front bs out → (n, m) ≡ put bs out
@@ -40,15 +40,10 @@ put_none bs out h = rw (lt-leb _ _ h)
 pub put_nil : (out : List ℕ) → (0, out) ≡ put [] out
 put_nil out = put_whole 0 [] out out (omega arith) refl (sym (front_nil out))
 
--- a byte at a time
-pub copied : (out bs m : List ℕ) (i : ℕ) → i < length out → i < length bs → m ≡ paste out 0 bs i → set m i (get_or bs i 0) ≡ paste out 0 bs (i + 1)
-copied out bs m i h k e =
-    ap₂ (λ (l : List ℕ) (j : ℕ). set l j (get_or bs i 0)) e (sym (zero-add i))
-    ∙ paste-suc out 0 bs i 0 (omega arith) k
-    ∙ ap (paste out 0 bs) (sym (add-one i))
-
-pub put_copied : (i : ℕ) (bs out m : List ℕ) → length bs ≤ length out → i ≡ length bs → m ≡ paste out 0 bs i → (i, m) ≡ put bs out
-put_copied i bs out m h e f = put_whole i bs out m h e (f ∙ front_paste bs out i e)
+-- copied to the front
+pub put_copied : (bs out m : List ℕ) → length bs ≤ length out → m ≡ bs → (length bs, m ++ drop (length bs) out) ≡ put bs out
+unfolding front
+put_copied bs out m h e = put_whole (length bs) bs out _ h refl (ap (λ (s : List ℕ). s ++ drop (length bs) out) e)
 
 pub put_wrote : (most n : ℕ) (bs out m : List ℕ) → length bs ≤ most → most ≤ length out → (n, m) ≡ put bs out → Wrote most bs out n m
 put_wrote most n bs out m h k e =
@@ -103,26 +98,27 @@ pub record Declined (x : ℕ) (out m : List ℕ) : Type 0 where
   pub same : m ≡ out
   pub why : x < bound → length out < length (number_bytes x)
 
-module _ (x : ℕ) (o : Outcome ℕ) (out m : List ℕ) (w : (o, m) ≡ write_number x out) where
+module _ (x : ℕ) (out : List ℕ) where
+  abbrev Gives : Outcome ℕ → List ℕ → Type 0
+  Gives o m = ◌≡◌ {A = Outcome ℕ × List ℕ} (o, m) (write_number x out)
+
   abbrev answer : Bool → Bool → Outcome ℕ × List ℕ
   answer s t = pick s (pick t (accepted (length (number_bytes x)), front (number_bytes x) out) (refused 5, out)) (refused 4, out)
 
-  by_cases : (P : Type 0) → ((s : Bool) → ltb x bound ≡ s → (t : Bool) → leb (length (number_bytes x)) (length out) ≡ t → o ≡ (answer s t).0 → m ≡ (answer s t).1 → P) → P
+  pub encoded : (n : ℕ) (m : List ℕ) → Gives (accepted n) m → Encoded x out n m
   unfolding write_number store
-  by_cases P f = f _ refl _ refl (ap (λ (p : Outcome ℕ × List ℕ). p.0) w) (ap (λ (p : Outcome ℕ × List ℕ). p.1) w)
-
-  pub encoded : (n : ℕ) → o ≡ accepted n → Encoded x out n m
-  encoded n e = by_cases _ go
+  encoded n m w = go (ltb x bound) refl (leb (length (number_bytes x)) (length out)) refl (ap (λ (a : Outcome ℕ × List ℕ). a.0) w) (ap (λ (a : Outcome ℕ × List ℕ). a.1) w)
     where
-      go : (s : Bool) → ltb x bound ≡ s → (t : Bool) → leb (length (number_bytes x)) (length out) ≡ t → o ≡ (answer s t).0 → m ≡ (answer s t).1 → Encoded x out n m
+      go : (s : Bool) → ltb x bound ≡ s → (t : Bool) → leb (length (number_bytes x)) (length out) ≡ t → accepted n ≡ (answer s t).0 → m ≡ (answer s t).1 → Encoded x out n m
       go true p true q f g = record { low = ltb-true _ _ p; fits = leb-true _ _ q; count = cc; bytes = g }
       go true p false q f g = let z : ◌≡◌ {A = ℕ} 0 1 = cc in absurd (omega arith)
       go false p t q f g = let z : ◌≡◌ {A = ℕ} 0 1 = cc in absurd (omega arith)
 
-  pub declined : (r : ℕ) → o ≡ refused r → Declined x out m
-  declined r e = by_cases _ go
+  pub declined : (r : ℕ) (m : List ℕ) → Gives (refused r) m → Declined x out m
+  unfolding write_number store
+  declined r m w = go (ltb x bound) refl (leb (length (number_bytes x)) (length out)) refl (ap (λ (a : Outcome ℕ × List ℕ). a.0) w) (ap (λ (a : Outcome ℕ × List ℕ). a.1) w)
     where
-      go : (s : Bool) → ltb x bound ≡ s → (t : Bool) → leb (length (number_bytes x)) (length out) ≡ t → o ≡ (answer s t).0 → m ≡ (answer s t).1 → Declined x out m
+      go : (s : Bool) → ltb x bound ≡ s → (t : Bool) → leb (length (number_bytes x)) (length out) ≡ t → refused r ≡ (answer s t).0 → m ≡ (answer s t).1 → Declined x out m
       go true p true q f g = let z : ◌≡◌ {A = ℕ} 0 1 = cc in absurd (omega arith)
       go true p false q f g = record { same = g; why = λ h. leb-false _ _ q }
       go false p t q f g = record { same = g; why = λ h. absurd (omega (arith, ltb-false x bound p)) }
@@ -153,6 +149,13 @@ pub number_not_due : (id x : ℕ) (due : Bool) → due ≡ false → due_number 
 unfolding due_number due_value
 number_not_due id x due e = rw e
 
+-- so nothing is stored
+pub value_off : (due : Bool) (id : ℕ) (v out : List ℕ) → due ≡ false → (0, out) ≡ put (due_value due id v) out
+value_off due id v out e = rw (not_due id v due e) (put_nil out)
+
+pub number_off : (due : Bool) (id x : ℕ) (out : List ℕ) → due ≡ false → (0, out) ≡ put (due_number due id x) out
+number_off due id x out e = rw (number_not_due id x due e) (put_nil out)
+
 pub number_high : (id x : ℕ) → bound ≤ x → due_number true id x ≡ []
 unfolding due_number due_value
 number_high id x h = rw (le-ltb _ _ h)
@@ -169,6 +172,10 @@ number_is_due id x due h k = rw (lt-ltb _ _ k, and-true due) (is_due id (number_
 pub due_short : (id : ℕ) (v : List ℕ) → id < 64 → length v < 64 → due_value true id v ≡ parameter id v
 due_short id v h k = is_due id v true (omega arith) (omega arith)
 
+-- what is stored where there is room
+pub stored : (n : ℕ) (bs out m : List ℕ) → length bs ≤ length out → (n, m) ≡ put bs out → m ≡ front bs out
+stored n bs out m h e = (put_wrote (length out) n bs out m h (omega arith) e).bytes
+
 module _ (id : ℕ) (v out : List ℕ) (h : id < 64) (k : length v < 64) where
   pub short_none : length out < length v + 2 → (0, out) ≡ put (parameter id v) out
   short_none l = rw (short_form id v h k) (put_none (id ∷ length v ∷ v) out (omega arith))
@@ -179,9 +186,9 @@ module _ (id : ℕ) (v out : List ℕ) (h : id < 64) (k : length v < 64) where
       rw (short_form id v h k)
       (put_whole (n + 2) (id ∷ length v ∷ v) out _ (omega arith) (omega arith) (rw e (front_two id (length v) v out ys (omega arith) f)))
 
--- what is stored where there is room
-pub stored : (n : ℕ) (bs out m : List ℕ) → length bs ≤ length out → (n, m) ≡ put bs out → m ≡ front bs out
-stored n bs out m h e = (put_wrote (length out) n bs out m h (omega arith) e).bytes
+  pub short_put : (n : ℕ) (ys : List ℕ) → length v + 2 ≤ length out → (n, ys) ≡ put v (lent 2 out)
+      → (length v + 2, set (set (back 2 out ys) 0 id) 1 (length v)) ≡ put (parameter id v) out
+  short_put n ys l e = short_whole (length v) ys l refl (stored n v (lent 2 out) ys (behind (length v) 2 out (omega arith)) e)
 
 module _ (id x : ℕ) (out : List ℕ) (h : id < 64) where
   short_number : x < bound → due_number true id x ≡ parameter id (number_bytes x)
@@ -194,9 +201,16 @@ module _ (id x : ℕ) (out : List ℕ) (h : id < 64) where
       go true e = rw (short_number (ltb-true _ _ e)) (short_none id (number_bytes x) out h (omega (arith, number_size_lem x)) l)
       go false e = rw (number_high id x (ltb-false _ _ e)) (put_nil out)
 
-  pub number_declined : (ys : List ℕ) → 2 ≤ length out → Declined x (lent 2 out) ys → (0, back 2 out ys) ≡ put (due_number true id x) out
-  number_declined ys l d = go (ltb x bound) refl
+  pub number_few : length out < 2 → (0, out) ≡ put (due_number true id x) out
+  number_few l = number_none (omega arith)
+
+  pub number_declined : (r : ℕ) (ys : List ℕ) → 2 ≤ length out → ◌≡◌ {A = Outcome ℕ × List ℕ} (refused r, ys) (write_number x (lent 2 out))
+      → (0, back 2 out ys) ≡ put (due_number true id x) out
+  number_declined r ys l w = go (ltb x bound) refl
     where
+      d : Declined x (lent 2 out) ys
+      d = declined x (lent 2 out) r ys w
+
       same : back 2 out ys ≡ out
       same = rw d.same (back_same 2 out)
 
@@ -204,9 +218,10 @@ module _ (id x : ℕ) (out : List ℕ) (h : id < 64) where
       go true e = rw same (number_none (omega (arith, d.why (ltb-true x bound e), length_lent 2 out)))
       go false e = rw (same, number_high id x (ltb-false _ _ e)) (put_nil out)
 
-  pub number_whole : (n : ℕ) (ys : List ℕ) → 2 ≤ length out → Encoded x (lent 2 out) n ys
+  pub number_whole : (n : ℕ) (ys : List ℕ) → 2 ≤ length out → ◌≡◌ {A = Outcome ℕ × List ℕ} (accepted n, ys) (write_number x (lent 2 out))
       → (n + 2, set (set (back 2 out ys) 0 id) 1 n) ≡ put (due_number true id x) out
-  number_whole n ys l e =
+  number_whole n ys l w =
+      let e = encoded x (lent 2 out) n ys w in
       rw (short_number e.low)
       (short_whole id (number_bytes x) out h (omega (arith, number_size_lem x)) n ys (omega (arith, e.fits, length_lent 2 out)) e.count e.bytes)
 
@@ -236,20 +251,16 @@ too_high x out m h d = go (ltb x bound) refl
     go true e = absurd (omega (arith, d.why (ltb-true x bound e), number_size_lem x))
     go false e = ltb-false _ _ e
 
-abbrev pub Headed : ℕ → ℕ → ℕ → List ℕ → Type 0
-Headed id n r m = (r ≡ length (head_of id n)) × (take r m ≡ head_of id n)
-
 module _ (id n : ℕ) (out : List ℕ) (h : 16 ≤ length out) where
-  pub head_first : (m : List ℕ) → Declined id out m → Headed id n 0 m
-  head_first m d = rw (high_first id n (too_high id out m (omega arith) d)) (refl, refl)
+  pub head_first : (m : List ℕ) → Declined id out m → head_of id n ≡ []
+  head_first m d = high_first id n (too_high id out m (omega arith) d)
 
   module _ (a : ℕ) (m : List ℕ) (e : Encoded id out a m) where
     pub head_room : (a ≤ 8) × (length m ≡ length out)
     head_room = (omega (arith, e.count, number_size_lem id), ap length e.bytes ∙ length_front (number_bytes id) out e.fits)
 
-    pub head_second : (ys : List ℕ) → Declined n (lent a m) ys → Headed id n 0 (back a m ys)
-    head_second ys d =
-        rw (high_second id n (too_high n (lent a m) ys (behind 8 a m (omega (arith, head_room.0, head_room.1))) d)) (refl, refl)
+    pub head_second : (ys : List ℕ) → Declined n (lent a m) ys → head_of id n ≡ []
+    head_second ys d = high_second id n (too_high n (lent a m) ys (behind 8 a m (omega (arith, head_room.0, head_room.1))) d)
 
     pub head_whole : (b : ℕ) (ys : List ℕ) → Encoded n (lent a m) b ys → Headed id n (a + b) (back a m ys)
     unfolding head_of front
@@ -258,7 +269,12 @@ module _ (id n : ℕ) (out : List ℕ) (h : 16 ≤ length out) where
         let l : a + b ≡ length bs = rw (length-append (number_bytes id) (number_bytes n)) (omega (arith, e.count, f.count)) in
         let r : length (number_bytes id) + length (number_bytes n) ≤ length out = omega (arith, number_size_lem id, number_size_lem n) in
         let t : back a m ys ≡ front bs out = front_then (number_bytes id) (number_bytes n) out m ys a e.count r e.bytes f.bytes in
-        rw (lt-ltb _ _ e.low, lt-ltb _ _ f.low) (l, rw (t, l) (take-append_seam bs (drop (length bs) out)))
+        let w : head_of id n ≡ bs = rw (lt-ltb _ _ e.low, lt-ltb _ _ f.low) in
+        record {
+          some = omega (arith, e.count, number_size_lem id);
+          count = l ∙ ap length (sym w);
+          bytes = rw (w, t, l) (take-append_seam bs (drop (length bs) out));
+        }
 
 module _ (id : ℕ) (v : List ℕ) where
   -- a head is there, or nothing is due
@@ -277,23 +293,29 @@ module _ (id : ℕ) (v : List ℕ) where
       go true e = g (rw e long) (rw e (sym (append_assoc (number_bytes id) (number_bytes (length v)) v)))
       go false e = f (rw e) (rw e)
 
-  pub long_nothing : (n : ℕ) (out : List ℕ) → n ≡ length (head_of id (length v)) → n ≡ 0 → (0, out) ≡ put (due_value true id v) out
-  long_nothing n out e z = head_or _ (λ _ d. rw d (put_nil out)) (λ l _. absurd (omega arith))
+  pub long_nothing : (out : List ℕ) → head_of id (length v) ≡ [] → (0, out) ≡ put (due_value true id v) out
+  long_nothing out e = head_or _ (λ _ d. rw d (put_nil out)) (λ l _. absurd (omega (arith, ap length e)))
 
-  pub long_due : (n : ℕ) → n ≡ length (head_of id (length v)) → (n ≡ 0 → ⊥) → due_value true id v ≡ head_of id (length v) ++ v
-  long_due n e z = head_or _ (λ h _. absurd (z (e ∙ ap length h))) (λ _ d. d)
+  module _ (n : ℕ) (out head : List ℕ) (e : Headed id (length v) n head) where
+    long_due : due_value true id v ≡ head_of id (length v) ++ v
+    long_due = head_or _ (λ h _. absurd (omega (arith, e.some, e.count, ap length h))) (λ _ d. d)
 
-  module _ (n : ℕ) (out : List ℕ) (e : n ≡ length (head_of id (length v))) (z : n ≡ 0 → ⊥) where
+    -- there are so many
+    pub long_head : (n ≤ length head) × (n ≡ length (take n head))
+    long_head = taken n (head_of id (length v)) head e.count e.bytes
+
     pub long_none : length out < n + length v → (0, out) ≡ put (due_value true id v) out
-    long_none l = rw (long_due n e z) (put_none _ out (rw (length-append (head_of id (length v)) v) (omega arith)))
+    long_none l = rw long_due (put_none _ out (rw (length-append (head_of id (length v)) v) (omega (arith, e.count))))
 
-    pub long_whole : (k j : ℕ) (bs m ys : List ℕ) → n + length v ≤ length out → bs ≡ head_of id (length v) → (k, m) ≡ put bs out → (j, ys) ≡ put v (lent n m)
+    pub long_whole : (k j : ℕ) (m ys : List ℕ) → n + length v ≤ length out → (k, m) ≡ put (take n head) out → (j, ys) ≡ put v (lent n m)
         → (n + length v, back n m ys) ≡ put (due_value true id v) out
-    long_whole k j bs m ys l b p q =
-        let c : length bs ≡ n = ap length b ∙ sym e in
+    long_whole k j m ys l p q =
+        let bs : List ℕ = take n head in
+        let b = e.bytes in
+        let c : length bs ≡ n = ap length b ∙ sym e.count in
         let f : m ≡ front bs out = stored k bs out m (omega arith) p in
         let i : length m ≡ length out = ap length f ∙ length_front bs out (omega arith) in
         let g : ys ≡ front v (lent n m) = stored j v (lent n m) ys (behind (length v) n m (omega arith)) q in
-        rw (long_due n e z, ← b)
+        rw (long_due, ← b)
         (put_whole (n + length v) (bs ++ v) out (back n m ys) (rw (length-append bs v) (omega arith)) (rw (length-append bs v) (omega arith))
         (front_then bs v out m ys n (sym c) (omega arith) f g))

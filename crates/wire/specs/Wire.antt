@@ -1,5 +1,5 @@
 -- Parameters stored at the front of a buffer: all of a parameter, or nothing of it.
-use Rattle.std.specs.Prelude.{ℕ, List, [], ◌++◌, Bool, ◌&&◌, not, length, get_or, ltb, leb, eqb}
+use Rattle.std.specs.Prelude.{ℕ, ◌≤◌, ◌≡◌, List, [], ◌++◌, Bool, ◌&&◌, not, length, take, get_or, ltb, leb, eqb}
 use Rattle.refusal.specs.Outcome.{pick, front}
 use Rattle.varint.specs.Number.{bound, number_bytes}
 use Rattle.catalogue.specs.Catalogue.{defaults, id_at, parameter}
@@ -11,6 +11,12 @@ put bs out = pick (leb (length bs) (length out)) (length bs, front bs out) (0, o
 -- identifier and length, if the wire form carries both
 unfoldable pub head_of : ℕ → ℕ → List ℕ
 head_of id n = pick (ltb id bound && ltb n bound) (number_bytes id ++ number_bytes n) []
+
+-- they are the first n bytes of a buffer
+pub record Headed (id len n : ℕ) (out' : List ℕ) : Type 0 where
+  pub some : 1 ≤ n
+  pub count : n ≡ length (head_of id len)
+  pub bytes : take n out' ≡ head_of id len
 
 -- a parameter, if it is due and the wire form carries its identifier and length
 unfoldable pub due_value : Bool → ℕ → List ℕ → List ℕ

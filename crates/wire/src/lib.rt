@@ -1,30 +1,30 @@
 // Parameters on the wire: one writer for each kind of value, for writing and for tidying. Each stores all of its parameter at the front of `out`
-// and gives its byte count, or stores nothing and gives 0: if it is not due, if there is no room, or if the wire form has no such number.
+// and gives its byte count, or stores nothing and gives 0: if it is not due, if there is no room, or if the wire form has no such number. It is no
+// `Option`: 0 is how many bytes were stored, and callers add the counts of what is due and what is not up without a branch.
 #![tactic(auto)]
 
-ghost use Rattle.std.specs.Prelude.{◌≡◌, true, ◌<◌, ◌≤◌, length, take};
+ghost use Rattle.std.specs.Prelude.{◌≡◌, [], true, ◌<◌, ◌≤◌, length};
+ghost use Rattle.std.specs.Result.{IfOk, OnErr};
 ghost use Rattle.catalogue.specs.Catalogue.{parameter};
-ghost use Rattle.wire.specs.Wire.{put, head_of, due_value, due_number};
+ghost use Rattle.wire.specs.Wire.{put, head_of, Headed, due_value, due_number};
 
 use refusal::Refusal;
 use varint::VarInt;
 
 // Copies the bytes.
+#[tactic(auto, using(crate::proofs::Put::put_none, crate::proofs::Put::put_copied))]
 pub fn put_bytes(bytes: &[u8], out: &mut [u8]) -> usize
     ensures { (result, out.new) ≡ put bytes.now out.old }
 {
     if out.len() < bytes.len() {
         return 0;
     }
-    let mut i: usize = 0;
-    while i < bytes.len() {
-        out[i] = bytes[i];
-        i += 1;
-    }
-    i
+    out[..bytes.len()].copy_from_slice(bytes);
+    bytes.len()
 }
 
 // A parameter whose value is copied.
+#[tactic(auto, using(crate::proofs::Put::value_off))]
 pub fn put_value(due: bool, id: u64, v: &[u8], out: &mut [u8]) -> usize
     ensures { (result, out.new) ≡ put (due_value due id v.now) out.old }
 {
@@ -38,14 +38,13 @@ pub fn put_value(due: bool, id: u64, v: &[u8], out: &mut [u8]) -> usize
 fn put_due(id: u64, v: &[u8], out: &mut [u8]) -> usize
     ensures { (result, out.new) ≡ put (due_value true id v.now) out.old }
 {
-    if id < 64 {
-        if v.len() < 64 {
-            return put_short(id, v, out);
-        }
+    if id < 64 && v.len() < 64 {
+        return put_short(id, v, out);
     }
     put_long(id, v, out)
 }
 
+#[tactic(auto, using(crate::proofs::Put::short_none))]
 fn put_short(id: u64, v: &[u8], out: &mut [u8]) -> usize
     requires { (id < 64) × (length v.now < 64) }
     ensures { (result, out.new) ≡ put (parameter id v.now) out.old }
@@ -61,31 +60,24 @@ fn put_short(id: u64, v: &[u8], out: &mut [u8]) -> usize
 }
 
 // Identifier and length, for which there is room.
-fn put_head(id: u64, len: u64, out: &mut [u8]) -> usize
+fn put_head(id: u64, len: u64, out: &mut [u8]) -> Result<usize, Refusal>
     requires { 16 ≤ length out.old }
-    ensures { (result ≡ length (head_of id len)) × (take result out.new ≡ head_of id len) }
+    ensures stored { IfOk result (λ n. Headed id len n out.new) }
+    ensures refused { OnErr result (head_of id len ≡ []) }
 {
-    let Ok(a) = VarInt(id).encode(out) else {
-        return 0;
-    };
-    let Ok(b) = VarInt(len).encode(&mut out[a..]) else {
-        return 0;
-    };
-    a + b
+    let a = VarInt(id).encode(out)?;
+    let b = VarInt(len).encode(&mut out[a..])?;
+    Ok(a + b)
 }
 
 fn put_long(id: u64, v: &[u8], out: &mut [u8]) -> usize
     ensures { (result, out.new) ≡ put (due_value true id v.now) out.old }
 {
     let mut head = [0u8; 16];
-    let n = put_head(id, v.len() as u64, &mut head);
-    if n == 0 {
+    let Ok(n) = put_head(id, v.len() as u64, &mut head) else {
         return 0;
-    }
-    if out.len() < n {
-        return 0;
-    }
-    if out.len() - n < v.len() {
+    };
+    if out.len() < n || out.len() - n < v.len() {
         return 0;
     }
     put_bytes(&head[..n], out);
@@ -94,6 +86,7 @@ fn put_long(id: u64, v: &[u8], out: &mut [u8]) -> usize
 }
 
 // A parameter that holds a number.
+#[tactic(auto, using(crate::proofs::Put::number_off))]
 pub fn put_number(due: bool, id: u64, x: u64, out: &mut [u8]) -> usize
     ensures { (result, out.new) ≡ put (due_number due id x) out.old }
 {
@@ -110,6 +103,7 @@ pub fn put_number(due: bool, id: u64, x: u64, out: &mut [u8]) -> usize
     put_due(id, &value[..n], out)
 }
 
+#[tactic(auto, using(crate::proofs::Put::number_few, crate::proofs::Put::number_whole))]
 fn put_short_number(id: u64, x: u64, out: &mut [u8]) -> usize
     requires { id < 64 }
     ensures { (result, out.new) ≡ put (due_number true id x) out.old }

@@ -4,21 +4,16 @@
 --     value_bytes_of, bytes_value       from a number to its bytes and back; from bytes to their number and back
 --     value_lt                          how large the number is
 --     value_gathered                    the number, byte by byte
---     swap                              the bytes of a word in the other order
 use Prim.Native.Nat.{ℕ, zero, suc, ◌+◌, ◌*◌, ◌/◌, ◌%◌, ◌^◌, ◌≤◌, ◌<◌}
-use mathlib.Core.Path.{◌≡◌, refl, ap, ap₂, sym, ◌∙◌}
-use mathlib.Core.List.{List, [], ◌∷◌, ◌++◌}
-use mathlib.Core.Bool.{Bool, true, false, ◌&&◌}
+use mathlib.Core.Path.{◌≡◌, refl, ap, ap₂}
+use mathlib.Core.List.{List, [], ◌∷◌}
 use native.Mathlib.Nat.{pow-succ', add-mul-div_left, add-mul, mul_assoc, mul_comm, add_assoc, one-le-pow, div-div-eq-div-mul}
 use native.Mathlib.Omega.{arith}
 use lib.ListN.{length, get_or, take, drop}
 use lib.Seq.{drop-cons}
 use lib.Pow.{pow-add}
 use lib.Arith.{mod-mul, digits_div}
-use lib.Dec.{ltb}
-use borrow.Author.Tests.{ltb-true}
-use Rattle.words.specs.Words.{value_from, bytes_of, word_of, bytewise, Word, elements}
-use Rattle.words.proofs.Laws.{word_append}
+use Rattle.words.specs.Words.{value_from, bytes_of}
 
 pub pow_pos : (n : ℕ) → 0 < 256 ^ n
 pow_pos n = one-le-pow n 256 (omega arith)
@@ -61,24 +56,6 @@ bytes_value (b ∷ l) a hs =
     let m : (a * 256 + b) % 256 ≡ b = omega (arith, hs 0) in
     ap₂ ◌∷◌ (rw (d, m)) (bytes_value l (a * 256 + b) (λ i. hs (suc i)))
 
--- the lowest byte stands last
-bytes_last : (n b w : ℕ) → b < 256 → bytes_of (suc n) (b + 256 * w) ≡ bytes_of n w ++ (b ∷ [])
-bytes_last zero b w h = ap (λ x. x ∷ []) (omega arith)
-bytes_last (suc n) b w h =
-    let q : (b + 256 * w) / 256 ≡ w = omega arith in
-    ap₂ ◌∷◌ (rw (pow-succ', ← div-div-eq-div-mul (b + 256 * w) 256 (256 ^ n), q)) (bytes_last n b w h)
-
-pub swap : (l : List ℕ) → bytewise l ≡ true → word_of (bytes_of (length l) (word_of l)) ≡ value_from 0 l
-swap [] h = refl
-swap (b ∷ l) h = go (ltb b 256) refl h (swap l)
-  where
-    go : (t : Bool) → ltb b 256 ≡ t → (t && bytewise l) ≡ true → (bytewise l ≡ true → word_of (bytes_of (length l) (word_of l)) ≡ value_from 0 l)
-        → word_of (bytes_of (suc (length l)) (b + 256 * word_of l)) ≡ value_from (0 * 256 + b) l
-    go true e h ih =
-        ap word_of (bytes_last (length l) b (word_of l) (ltb-true b 256 e)) ∙ word_append (bytes_of (length l) (word_of l)) (b ∷ [])
-        ∙ rw (length_bytes_of (length l) (word_of l), ih h, value_parts l (0 * 256 + b)) (omega (arith, mul_comm (256 ^ length l) b))
-    go false e h ih = let z : ◌≡◌ {A = ℕ} 0 1 = cc in absurd (omega arith)
-
 -- the first bytes of a number are those of the number without its last
 pub take_bytes_of : (n m k v : ℕ) → n + m ≡ k → take n (bytes_of k v) ≡ bytes_of n (v / 256 ^ m)
 take_bytes_of zero m k v e = refl
@@ -93,7 +70,3 @@ bytes_above zero a v = refl
 bytes_above (suc n) a v =
     rw (pow-succ', mul_comm 256 (256 ^ n), mul_assoc (256 ^ n) 256 a)
     (ap₂ ◌∷◌ (rw (add-mul-div_left v (256 * a) (pow_pos n)) (omega arith)) (bytes_above n (256 * a) v))
-
-pub big_8 : (s : List ℕ) (w : ℕ) → 8 ≤ length s → Word (elements 8 0 s) w → word_of (bytes_of 8 w) ≡ value_from 0 (take 8 s)
-unfolding elements
-big_8 s w h x = rw x.is (swap (elements 8 0 s) x.low) ∙ sym (value_gathered 8 0 0 s h)

@@ -17,16 +17,19 @@ use mathlib.Core.List.{List, [], ◌∷◌, ◌++◌}
 use mathlib.Core.Bool.{Bool, true, false, ◌&&◌, not}
 use native.Mathlib.Omega.{arith}
 use native.Mathlib.Numerals.{add-one}
-use lib.ListN.{length, get_or, take, drop, replicate, drop_of_length-le, length-append, length-drop}
+use lib.ListN.{length, get_or, take, drop, replicate, drop_of_length-le, length-drop}
 use lib.Seq.{drop-cons, get_or-drop, take_all}
 use lib.Bits.{bit_or, bit_and, or_add_and, and_le_l, and_le_r}
 use lib.Dec.{eqb, ltb}
 use borrow.Author.Tests.{lt-ltb, ltb-true, eq-eqb, ne_eqb, eqb-true, eqb-false}
-use native.Mathlib.Nat.{add-zero, add-suc, mul_comm, pow-le-pow_right, one-le-pow, pow-succ', mul_assoc, mod-eq_of_lt, add-mul-div_left, div-eq_of_lt, div-lt_iff_lt-mul, div-one, zero-div}
-use lib.Pow.{pow-add, shr-shr}
-use lib.Arith.{digits_lt}
+use native.Mathlib.Nat.{pow-le-pow_right, one-le-pow, pow-succ', mul_assoc, mod-eq_of_lt, add-mul-div_left, div-eq_of_lt, div-lt_iff_lt-mul, div-one, zero-div}
+use lib.Pow.{shr-shr}
 use lib.Bits.{or_shifted}
-use Rattle.words.specs.Words.{every, zeros, same_bytes, word_of, bytewise, Word, WordsOf20, elements}
+use lib.Seq.{drop-drop, length-take-le}
+use lib.ListN.{take-append-drop}
+use Rattle.std.proofs.lemmas.List.{drop-replicate}
+use Rattle.std.specs.Int.{w64, from_le_bytes}
+use Rattle.words.specs.Words.{every, zeros, word_of, bytewise, Word, elements}
 
 pub zeros_are : (l : List ℕ) → zeros l ≡ true → l ≡ replicate (length l) 0
 zeros_are [] h = refl
@@ -131,23 +134,6 @@ every_append f (x ∷ a) b = ap (λ t. f x && t) (every_append f a b) ∙ and_as
 pub bytes_join : (a b : List ℕ) → bytewise a ≡ true → bytewise b ≡ true → bytewise (a ++ b) ≡ true
 bytes_join a b h k = every_append (λ b. ltb b 256) a b ∙ rw (h, k)
 
-pub one_word : (b r : ℕ) → (r ≡ b) × (r < 256) → Word (b ∷ []) r
-one_word b r h = record { is = omega arith; low = rw (lt-ltb b 256 (omega arith)); small = omega arith }
-
--- the bytes of two words, side by side in 64 bits
-pub words_join : (k x y r : ℕ) (a b : List ℕ) → r ≡ bit_or (y * 2 ^ k % 2 ^ 64) x → 256 ^ length a ≡ 2 ^ k → 256 ^ length b * 2 ^ k ≤ 2 ^ 64 → Word a x → Word b y → Word (a ++ b) r
-words_join k x y r a b e q m u v =
-    let hx : x < 2 ^ k = rw q at u.small in
-    let hy : y * 2 ^ k + x < 256 ^ length b * 2 ^ k = digits_lt {q = y} v.small hx in
-    let j : bit_or (y * 2 ^ k % 2 ^ 64) x ≡ y * 2 ^ k + x = joined k y x (omega arith) hx in
-    let c : 2 ^ k * y ≡ y * 2 ^ k = mul_comm (2 ^ k) y in
-    let d : 2 ^ k * 256 ^ length b ≡ 256 ^ length b * 2 ^ k = mul_comm (2 ^ k) (256 ^ length b) in
-    record {
-      is = e ∙ j ∙ rw (word_append a b, q, ← v.is, ← u.is) (omega arith);
-      low = bytes_join a b u.low v.low;
-      small = rw (length-append a b, pow-add 256 (length a) (length b), e, j, q) (omega arith);
-    }
-
 pub zeros_word : (n : ℕ) (l : List ℕ) → bytewise l ≡ true → zeros (drop n l) ≡ eqb (word_of l / 2 ^ (8 * n)) 0
 zeros_word zero l h = rw (div-one (word_of l)) (all_zero l)
   where
@@ -199,76 +185,54 @@ unfolding elements
 elements_all zero i s h = sym (drop_of_length-le s {i = i} (omega arith))
 elements_all (suc n) i s h = rw (drop-cons s i 0 (omega arith)) (ap (λ t. get_or s i 0 ∷ t) (elements_all n (suc i) s (omega arith)))
 
--- the elements of a part that starts at k
-elements_part : (n i k : ℕ) (s : List ℕ) → elements n i (drop k s) ≡ elements n (k + i) s
-unfolding elements
-elements_part zero i k s = refl
-elements_part (suc n) i k s = ap₂ ◌∷◌ (get_or-drop k s i 0) (rw (add-suc k i) at (elements_part n (suc i) k s))
-
-pub word_part : (n k w : ℕ) (s : List ℕ) → Word (elements n 0 (take (length s - k) (drop k s))) w → Word (elements n k s) w
-word_part n k w s x = rw (take_all (length s - k) (drop k s) (omega (arith, length-drop k s)), elements_part n 0 k s, add-zero k) at x
-
 -- the test of three words is that of their bytes
 pub zero_words : (n u v w : ℕ) (r : Bool) (a b d : List ℕ) → length a ≡ 8 → length b ≡ 8 → Word a u → Word b v → Word d w
     → r ≡ eqb ((u + 2 ^ 64 * (v + 2 ^ 64 * w)) / 2 ^ (8 * n)) 0 → r ≡ zeros (drop n (a ++ (b ++ d)))
 zero_words n u v w r a b d la lb x y z e =
     e ∙ rw (zeros_word n (a ++ (b ++ d)) (bytes_join a (b ++ d) x.low (bytes_join b d y.low z.low)), word_append a (b ++ d), word_append b d, la, lb, ← x.is, ← y.is, ← z.is)
 
-pub no_word : Word [] 0
-no_word = record { is = refl; low = refl; small = omega arith }
-
 -- an array's elements are the array
 pub whole_array : (n : ℕ) (s : List ℕ) → length s ≡ n → elements n 0 s ≡ s
 whole_array n s h = elements_all n 0 s (omega arith)
 
-pub zero_word : (a : List ℕ) (u : ℕ) → Word a u → eqb u 0 ≡ zeros a
-zero_word a u x = rw x.is (sym (zeros_word 0 a x.low ∙ ap (λ y. eqb y 0) (div-one (word_of a))))
+-- the bytes of a number below 2 ^ 64, low byte first
+word_lt : (bs : List ℕ) → ((i : ℕ) → get_or bs i 0 < 256) → word_of bs < 256 ^ length bs
+word_lt [] hs = omega arith
+word_lt (b ∷ bs) hs = rw pow-succ' (omega (arith, word_lt bs (λ i. hs (suc i)), hs 0))
 
--- two lists of words
-pub same_append : (a b c d : List ℕ) → length a ≡ length b → same_bytes (a ++ c) (b ++ d) ≡ (same_bytes a b && same_bytes c d)
-same_append [] [] c d h = refl
-same_append [] (y ∷ b) c d h = absurd (omega arith)
-same_append (x ∷ a) [] c d h = absurd (omega arith)
-same_append (x ∷ a) (y ∷ b) c d h = rw (same_append a b c d (omega arith)) (and_assoc (eqb x y) (same_bytes a b) (same_bytes c d))
+-- bytes stay below 256 in a part
+pub bytes_take : (n : ℕ) (bs : List ℕ) → ((i : ℕ) → get_or bs i 0 < 256) → (i : ℕ) → get_or (take n bs) i 0 < 256
+bytes_take zero bs h i = omega arith
+bytes_take (suc n) [] h i = omega arith
+bytes_take (suc n) (b ∷ bs) h zero = h 0
+bytes_take (suc n) (b ∷ bs) h (suc i) = bytes_take n bs (λ j. h (suc j)) i
 
-same_bytes_lem : (a b : List ℕ) → length a ≡ length b → bytewise a ≡ true → bytewise b ≡ true → eqb (word_of a) (word_of b) ≡ same_bytes a b
-same_bytes_lem [] [] h p q = refl
-same_bytes_lem [] (y ∷ b) h p q = absurd (omega arith)
-same_bytes_lem (x ∷ a) [] h p q = absurd (omega arith)
-same_bytes_lem (x ∷ a) (y ∷ b) h p q = go (ltb x 256) (ltb y 256) refl refl p q (same_bytes_lem a b (omega arith))
-  where
-    both : (v w : ℕ) → x < 256 → y < 256 → eqb (x + 256 * v) (y + 256 * w) ≡ (eqb x y && eqb v w)
-    both v w hx hy = on (eqb x y) refl (eqb v w) refl
-      where
-        on : (s : Bool) → eqb x y ≡ s → (t : Bool) → eqb v w ≡ t → eqb (x + 256 * v) (y + 256 * w) ≡ (s && t)
-        on true e true f = eq-eqb (x + 256 * v) (y + 256 * w) (omega (arith, eqb-true x y e, eqb-true v w f))
-        on true e false f = ne_eqb _ _ (λ (n : x + 256 * v ≡ y + 256 * w). eqb-false v w f (omega (arith, eqb-true x y e)))
-        on false e t f = ne_eqb _ _ (λ (n : x + 256 * v ≡ y + 256 * w). eqb-false x y e (omega (arith, hx, hy)))
+pub bytes_part : (n k : ℕ) (s : List ℕ) → ((i : ℕ) → get_or s i 0 < 256) → (i : ℕ) → get_or (take n (drop k s)) i 0 < 256
+bytes_part n k s h = bytes_take n (drop k s) (λ i. rw get_or-drop (h (k + i)))
 
-    go : (s t : Bool) → ltb x 256 ≡ s → ltb y 256 ≡ t → (s && bytewise a) ≡ true → (t && bytewise b) ≡ true
-        → (bytewise a ≡ true → bytewise b ≡ true → eqb (word_of a) (word_of b) ≡ same_bytes a b)
-        → eqb (x + 256 * word_of a) (y + 256 * word_of b) ≡ (eqb x y && same_bytes a b)
-    go true true e f p q ih = both (word_of a) (word_of b) (ltb-true x 256 e) (ltb-true y 256 f) ∙ rw (ih p q)
-    go true false e f p q ih = let z : ◌≡◌ {A = ℕ} 0 1 = cc in absurd (omega arith)
-    go false t e f p q ih = let z : ◌≡◌ {A = ℕ} 0 1 = cc in absurd (omega arith)
+pub le_word : (bs : List ℕ) (r : ℕ) → length bs ≡ 8 → ((i : ℕ) → get_or bs i 0 < 256) → r ≡ from_le_bytes w64 bs → Word bs r
+unfolding elements
+le_word bs r h hs e =
+    let i : word_of (elements 8 0 bs) ≡ word_of bs = ap word_of (whole_array 8 bs h) in
+    let j : r ≡ word_of bs = omega (arith, e, i) in
+    record { is = j; low = every_of (λ b. ltb b 256) bs (λ p k. lt-ltb _ _ (hs p)); small = rw j (word_lt bs hs) }
 
-same_word : (a b : List ℕ) (u v : ℕ) → length a ≡ length b → Word a u → Word b v → eqb u v ≡ same_bytes a b
-same_word a b u v h x y = rw (x.is, y.is) (same_bytes_lem a b h x.low y.low)
+-- 24 bytes, eight to a word
+three_words : (l : List ℕ) → length l ≡ 24 → take 8 l ++ (take 8 (drop 8 l) ++ take 8 (drop 16 l)) ≡ l
+three_words l h =
+    let t : take 8 (drop 16 l) ≡ drop 16 l = take_all 8 (drop 16 l) (omega (arith, length-drop 16 l)) in
+    let d : drop 8 (drop 8 l) ≡ drop 16 l = drop-drop 8 8 l in
+    rw (t, ← d, take-append-drop, take-append-drop)
 
--- the words of 20 bytes
-module _ (s : List ℕ) (u v w : ℕ) (x : WordsOf20 s u v w) where
-  pub zero_20 : (n : ℕ) (r : Bool) → r ≡ eqb ((u + 2 ^ 64 * (v + 2 ^ 64 * w)) / 2 ^ (8 * n)) 0 → r ≡ zeros (drop n (elements 20 0 s))
-  unfolding elements
-  zero_20 n r e = zero_words n u v w r (elements 8 0 s) (elements 8 8 s) (elements 4 16 s) refl refl x.first x.second x.third e
+pub zero_24 : (n u v w : ℕ) (r : Bool) (l : List ℕ) → length l ≡ 24 → Word (take 8 l) u → Word (take 8 (drop 8 l)) v → Word (take 8 (drop 16 l)) w
+    → r ≡ eqb ((u + 2 ^ 64 * (v + 2 ^ 64 * w)) / 2 ^ (8 * n)) 0 → r ≡ zeros (drop n l)
+zero_24 n u v w r l h x y z e =
+    let a : length (take 8 l) ≡ 8 = length-take-le 8 l (omega arith) in
+    let b : length (take 8 (drop 8 l)) ≡ 8 = length-take-le 8 (drop 8 l) (omega (arith, length-drop 8 l)) in
+    rw (three_words l h) at (zero_words n u v w r (take 8 l) (take 8 (drop 8 l)) (take 8 (drop 16 l)) a b x y z e)
 
-  pub same_20 : (t : List ℕ) (u' v' w' : ℕ) → WordsOf20 t u' v' w' → (eqb u u' && (eqb v v' && eqb w w')) ≡ same_bytes (elements 20 0 s) (elements 20 0 t)
-  unfolding elements
-  same_20 t u' v' w' y =
-      rw (
-        same_word (elements 8 0 s) (elements 8 0 t) u u' refl x.first y.first,
-        same_word (elements 8 8 s) (elements 8 8 t) v v' refl x.second y.second,
-        same_word (elements 4 16 s) (elements 4 16 t) w w' refl x.third y.third,
-      )
-      (sym
-      (same_append (elements 8 0 s) (elements 8 0 t) (elements 12 8 s) (elements 12 8 t) refl
-      ∙ ap (λ r. same_bytes (elements 8 0 s) (elements 8 0 t) && r) (same_append (elements 8 8 s) (elements 8 8 t) (elements 4 16 s) (elements 4 16 t) refl)))
+-- zeros behind them change nothing
+pub zeros_behind : (n : ℕ) (l : List ℕ) (k : ℕ) → zeros (drop n (l ++ replicate k 0)) ≡ zeros (drop n l)
+zeros_behind zero l k = zeros_append l (replicate k 0) ∙ rw (zeros_replicate k) (and-true (zeros l))
+zeros_behind (suc n) [] k = rw drop-replicate (zeros_replicate (k - suc n))
+zeros_behind (suc n) (b ∷ l) k = zeros_behind n l k

@@ -1,6 +1,5 @@
 -- Words that several crates' definitions use.
 use Rattle.std.specs.Prelude.{ℕ, zero, suc, ◌+◌, ◌*◌, ◌/◌, ◌%◌, ◌^◌, ◌<◌, ◌≡◌, Bool, true, false, ◌&&◌, List, [], ◌∷◌, length, get_or, eqb, ltb, leb}
-use Rattle.refusal.specs.Outcome.{pick, front}
 
 -- every element passes
 abbrev pub every : (ℕ → Bool) → List ℕ → Bool
@@ -48,13 +47,3 @@ pub record Word (bs : List ℕ) (r : ℕ) : Type 0 where
 unfoldable pub elements : ℕ → ℕ → List ℕ → List ℕ
 elements zero i s = []
 elements (suc n) i s = get_or s i 0 ∷ elements n (suc i) s
-
--- the words of 20 bytes
-pub record WordsOf20 (s : List ℕ) (u v w : ℕ) : Type 0 where
-  pub first : Word (elements 8 0 s) u
-  pub second : Word (elements 8 8 s) v
-  pub third : Word (elements 4 16 s) w
-
--- a buffer with bytes at its front, if there is room for them
-unfoldable pub copied : List ℕ → List ℕ → List ℕ
-copied bs out = pick (leb (length bs) (length out)) (front bs out) out

@@ -16,7 +16,7 @@ use Rattle.refusal.proofs.Laws.{all_at}
 use Rattle.varint.specs.Number.{bound, form, tag_of}
 use Rattle.connection_id.specs.ConnectionId.{cid_of, formed_cid}
 use Rattle.record.specs.declared.TransportParameters.{TransportParameters}
-use Rattle.record.specs.declared.OptionalConnectionId.{OptionalConnectionId}
+use Rattle.record.specs.Optional.{OptionalConnectionId}
 use Rattle.std.specs.Prelude.{Some}
 use Rattle.record.specs.declared.ReservedTransportParameter.{ReservedTransportParameter}
 use Rattle.catalogue.specs.Catalogue.{Kind, reserved, places, ids, id_at, kinds, kind_at, defaults, parameter, parameter_if, widest}
@@ -96,7 +96,7 @@ longest_record =
       min_ack_delay = Some (bound - 1);
       original_dst_cid = longest_cid;
       retry_src_cid = longest_cid;
-      stateless_reset_token = record { present = true; token = token_of (replicate 16 255) };
+      stateless_reset_token = record { present = true; value = token_of (replicate 16 255) };
       preferred_address =
           record {
             present = true;
@@ -110,7 +110,7 @@ longest_record =
     }
   where
     longest_cid : OptionalConnectionId
-    longest_cid = record { present = true; cid = cid_of (replicate 20 255) }
+    longest_cid = record { present = true; value = cid_of (replicate 20 255) }
 
 pub reached : (well_formed longest_record ≡ true) × (length (extension longest_record catalogue_order) ≡ max_extension)
 unfolding longest_record well_formed all formed_reserved formed_optional_token formed_token formed_optional formed_address formed_family formed_optional_cid formed_cid formed_order no_order cid_of extension catalogue_order parameter_at reserved_bytes values_of other_values number_out optional_out flag_out cid_out token_out address_out family_out defaults id_at ids parameter form tag_of

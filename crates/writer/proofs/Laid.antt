@@ -3,7 +3,7 @@
 --     laid_then      some, then others
 --     laid_within    never beyond the buffer
 --     laid_room      with room for all: where they stand, and where each ends
-use Prim.Native.Nat.{ℕ, zero, suc, ◌+◌, ◌-◌, ◌*◌, ◌^◌, ◌≤◌, ◌<◌}
+use Prim.Native.Nat.{ℕ, zero, suc, ◌+◌, ◌-◌, ◌^◌, ◌≤◌, ◌<◌}
 use mir.Val.{Fits}
 use mir.Syntax.{w64}
 use mathlib.Core.List.{List, [], ◌∷◌, ◌++◌, append_assoc, append-nil}
@@ -32,33 +32,9 @@ laid_next s ss k at n out ys st e =
     let p : put s (drop at out) ≡ (n, ys) = sym (e ∙ ap (put s) (rest at out)) in
     rw (p, whole at out ys)
 
--- a place as an index of the starts
-pub record Index (p : ℕ) : Type 0 where
-  pub here : p < places + 1
-  pub next : p + 1 < places + 1
-  pub fits : Fits w64 (p * 8)
-  pub next_fits : Fits w64 (p + 1)
-  pub fits_next : Fits w64 ((p + 1) * 8)
-
-pub index : (p : ℕ) → p < places → Index p
-index p h = record { here = omega arith; next = omega arith; fits = omega arith; next_fits = omega arith; fits_next = omega arith }
-
--- a turn of a loop
-pub turn_le : (i n : ℕ) → i < n → i + 1 ≤ n
-turn_le i n h = omega arith
-
-pub turn_less : (i n : ℕ) → i < n → n - (i + 1) < n - i
-turn_less i n h = omega arith
-
-pub place : (i : ℕ) → i < 11 → i < places
-place i h = omega arith
-
 -- how far a writer goes is a number of the machine
 pub fits_behind : {at n : ℕ} {o m : List ℕ} {l : ℕ} → Behind at n o m → length o ≡ l → l < 2 ^ 64 → Fits w64 (at + n)
 fits_behind {at} {n} {o} {m} h e k = record { fits = omega (arith, h.within, h.same) }
-
-pub fits_room : (a n l : ℕ) → a ≤ n → n ≤ l → l < 2 ^ 64 → Fits w64 a
-fits_room a n l h k i = omega arith
 
 abbrev pub Laid : Type 0
 Laid = ℕ × List ℕ × List ℕ
@@ -183,12 +159,12 @@ prefix f p (suc d) =
     let e : p + suc d ≡ suc (p + d) = omega arith in
     rw e (omega (arith, prefix f p d))
 
-pub room_among : (f : ℕ → List ℕ) (p n at : ℕ) (out st o s : List ℕ) → p < n → n ≤ places → Room (each f n) 0 st out → (at, o, s) ≡ laid (each f p) 1 0 out st → Next p at s o
-room_among f p n at out st o s h k r e =
+pub room_among : (f : ℕ → List ℕ) (p n b at : ℕ) (out st o s : List ℕ) → p < n → n ≤ places → Room (each f n) b st out → (at, o, s) ≡ laid (each f p) 1 b out st → Next p at s o
+room_among f p n b at out st o s h k r e =
     let q : p + (n - p) ≡ n = omega arith in
     let w : length (joined (each f p)) ≤ length (joined (each f n)) = rw q at (prefix f p (n - p)) in
-    let x : Room (each f p ++ []) 0 st out = rw (append-nil (each f p)) record { noted = r.noted; within = omega (arith, r.within); long = r.long; clear = r.clear } in
-    record { place = omega arith; room = room_then (each f p) [] 1 0 at out st o s x e }
+    let x : Room (each f p ++ []) b st out = rw (append-nil (each f p)) record { noted = r.noted; within = omega (arith, r.within); long = r.long; clear = r.clear } in
+    record { place = omega arith; room = room_then (each f p) [] 1 b at out st o s x e }
 
 -- what the writers are lent
 pub next_lent : {p at : ℕ} {st out : List ℕ} → Next p at st out → (32 ≤ length (lent at out)) × (zeros (lent at out) ≡ true)

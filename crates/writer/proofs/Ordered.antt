@@ -14,8 +14,8 @@ use mathlib.Core.Bool.{Bool, true, false}
 use native.Mathlib.Omega.{arith}
 use native.Mathlib.Nat.{add-zero, zero-add}
 use native.Mathlib.Numerals.{add-one}
-use lib.ListN.{length, get_or, take, drop, replicate, length-append, length-take, length-drop, take-append-drop, get_or-append}
-use lib.Seq.{length-take-le, take_all, take-suc, take_at, take-append-add, take-take, take-add, drop-drop, split_at, take-append_seam, drop-append-add, get_or_at, sets, sets-eq}
+use lib.ListN.{length, get_or, take, drop, set, replicate, length-append, length-take, length-drop, take-append-drop, get_or-append}
+use lib.Seq.{length-take-le, take_all, take-suc, take_at, take-append-add, take-take, take-add, drop-drop, split_at, take-append_seam, drop-append-add, get_or_at, sets, sets-eq, paste, paste-suc}
 use borrow.Author.Tests.{eqb-true, eqb-false}
 use lib.Dec.{eqb}
 use Rattle.refusal.specs.Outcome.{front}
@@ -24,12 +24,10 @@ use Rattle.record.specs.declared.TransportParameters.{TransportParameters}
 use Rattle.catalogue.specs.Catalogue.{places}
 use Rattle.writer.specs.Writing.{concat_of, parameter_at, extension, max_extension}
 use Rattle.order.specs.Order.{distinct, permutation}
-use Rattle.wire.specs.Wire.{put}
 use Rattle.wire.specs.Stored.{Wrote, joined, each}
 use Rattle.writer.specs.Laid.{ends_from, part_at, InOrder, Fit, Front}
 use Rattle.order.proofs.Orders.{first}
 use Rattle.wire.proofs.Stored.{lent, back, rest, whole, length_lent, wrote_length, joined_append, length_each}
-use Rattle.wire.proofs.Put.{stored}
 use Rattle.writer.proofs.Laid.{Whole, length_ends}
 
 -- AN ORDER, PLACE BY PLACE
@@ -85,13 +83,18 @@ module _ (i j room : ℕ) (a bs out m ys : List ℕ) (t : take i m ≡ a) (d : d
       short : (q : ℕ) (u v : List ℕ) → take q u ≡ v → length v ≤ q
       short q u v e = omega (arith, ap length e, length-take q u)
 
--- a part of `parts`, stored whole
-pub slice_stored : (from len n : ℕ) (parts out ys : List ℕ) → from + len ≤ length parts → len ≤ length out → (n, ys) ≡ put (take (from + len - from) (drop from parts)) out
-    → ys ≡ front (take len (drop from parts)) out
-slice_stored from len n parts out ys h k e =
+-- a part, given its end
+pub slice_front : (from len : ℕ) (parts out ys : List ℕ) → ys ≡ front (take (from + len - from) (drop from parts)) out → ys ≡ front (take len (drop from parts)) out
+slice_front from len parts out ys e =
     let z : from + len - from ≡ len = omega arith in
-    let l : length (take len (drop from parts)) ≡ len = length-take-le len (drop from parts) (omega (arith, length-drop from parts)) in
-    stored n (take len (drop from parts)) out ys (omega arith) (rw z at e)
+    rw z at e
+
+-- a byte at a time
+pub copied : (out bs m : List ℕ) (i : ℕ) → i < length out → i < length bs → m ≡ paste out 0 bs i → set m i (get_or bs i 0) ≡ paste out 0 bs (i + 1)
+copied out bs m i h k e =
+    ap₂ (λ (l : List ℕ) (j : ℕ). set l j (get_or bs i 0)) e (sym (zero-add i))
+    ∙ paste-suc out 0 bs i 0 (omega arith) k
+    ∙ ap (paste out 0 bs) (sym (add-one i))
 
 -- the first block, one more, and no more than asked for
 pub block_first : (from len room : ℕ) (parts out ys : List ℕ) → from + len ≤ length parts → len ≤ room → room ≤ length out → ys ≡ front (take len (drop from parts)) out

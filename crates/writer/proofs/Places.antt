@@ -38,7 +38,7 @@ use Rattle.writer.proofs.Laid.{Laid, laid_then}
 pub record Formed (r : TransportParameters) : Type 0 where
   pub numbers : length r.numbers ≡ 11
   pub reserved : formed_reserved r.grease_transport_parameter ≡ true
-  pub token : length r.stateless_reset_token.token.bytes ≡ 16
+  pub token : length r.stateless_reset_token.value.bytes ≡ 16
   pub address : formed_address r.preferred_address ≡ true
   pub original : formed_optional_cid r.original_dst_cid ≡ true
   pub initial : formed_optional_cid r.initial_src_cid ≡ true
@@ -115,16 +115,16 @@ module _ (r : TransportParameters) where
   abbrev pub from11 : List (List ℕ)
   from11 =
       due_value r.grease_transport_parameter.present r.grease_transport_parameter.id (take r.grease_transport_parameter.payload_len r.grease_transport_parameter.payload)
-      ∷ due_value r.stateless_reset_token.present (id_at 12) r.stateless_reset_token.token.bytes
+      ∷ due_value r.stateless_reset_token.present (id_at 12) r.stateless_reset_token.value.bytes
       ∷ due_value r.disable_active_migration (id_at 13) []
       ∷ due_number (is_present r.max_datagram_frame_size) (id_at 14) (least r.max_datagram_frame_size)
       ∷ due_value r.preferred_address.present (id_at 15) (address_bytes r.preferred_address) ∷ []
 
   abbrev pub from16 : List (List ℕ)
   from16 =
-      due_value r.original_dst_cid.present (id_at 16) (cid_bytes r.original_dst_cid.cid)
-      ∷ due_value r.initial_src_cid.present (id_at 17) (cid_bytes r.initial_src_cid.cid)
-      ∷ due_value r.retry_src_cid.present (id_at 18) (cid_bytes r.retry_src_cid.cid)
+      due_value r.original_dst_cid.present (id_at 16) (cid_bytes r.original_dst_cid.value)
+      ∷ due_value r.initial_src_cid.present (id_at 17) (cid_bytes r.initial_src_cid.value)
+      ∷ due_value r.retry_src_cid.present (id_at 18) (cid_bytes r.retry_src_cid.value)
       ∷ due_value r.grease_quic_bit (id_at 19) []
       ∷ due_number (is_present r.min_ack_delay) (id_at 20) (least r.min_ack_delay) ∷ []
 
@@ -189,11 +189,11 @@ module _ (r : TransportParameters) where
     room_all at st out x = rw all_places x
 
     -- all three parts, one after another
-    pub whole_catalogue : (a b n : ℕ) (out st o₁ s₁ o₂ s₂ o₃ s₃ : List ℕ) → (a, o₁, s₁) ≡ laid (each (number_at r.numbers) 11) 1 0 out st
+    pub whole_catalogue : (a b n at : ℕ) (out st o₁ s₁ o₂ s₂ o₃ s₃ : List ℕ) → (a, o₁, s₁) ≡ laid (each (number_at r.numbers) 11) 1 at out st
         → (b, o₂, s₂) ≡ laid (five r 11) 12 a o₁ s₁ → (n, o₃, s₃) ≡ laid (five r 16) 17 b o₂ s₂
-        → (n, o₃, s₃) ≡ laid (each (parameter_at r) places) 1 0 out st
-    whole_catalogue a b n out st o₁ s₁ o₂ s₂ o₃ s₃ e₁ e₂ e₃ =
+        → (n, o₃, s₃) ≡ laid (each (parameter_at r) places) 1 at out st
+    whole_catalogue a b n at out st o₁ s₁ o₂ s₂ o₃ s₃ e₁ e₂ e₃ =
         e₃
         ∙ laid_then (five r 11) (five r 16) 12 17 a b o₁ s₁ o₂ s₂ (unfold five in refl) e₂
-        ∙ laid_then (each (number_at r.numbers) 11) (five r 11 ++ five r 16) 1 12 0 a out st o₁ s₁ (rw (length_each (number_at r.numbers) 11)) e₁
+        ∙ laid_then (each (number_at r.numbers) 11) (five r 11 ++ five r 16) 1 12 at a out st o₁ s₁ (rw (length_each (number_at r.numbers) 11)) e₁
         ∙ rw all_places

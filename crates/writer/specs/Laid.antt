@@ -6,6 +6,7 @@ use Rattle.wire.specs.Wire.{put}
 use Rattle.record.specs.declared.TransportParameters.{TransportParameters}
 use Rattle.words.specs.Words.{zeros}
 use Rattle.wire.specs.Stored.{joined}
+use Rattle.writer.specs.declared.Draft.{Draft}
 use Rattle.writer.specs.Writing.{parameter_at, concat_of, max_extension}
 
 -- parameters behind the first `at` bytes of a buffer, and their ends from entry k of the notes on: how far they go, the buffer, the notes
@@ -41,6 +42,17 @@ pub record Room (ss : List (List ℕ)) (at : ℕ) (starts out : List ℕ) : Type
 pub record Next (p at : ℕ) (starts out : List ℕ) : Type 0 where
   pub place : p < places
   pub room : Room [] at starts out
+
+-- OF THE CODE'S DRAFT: these are laid behind the first `at` bytes, with their ends noted from entry k on; room for these; and before the parameter
+-- of a place
+abbrev pub Adds : List (List ℕ) → ℕ → ℕ → Draft → ℕ → Draft → Type 0
+Adds ss k at d at' d' = (at', d'.parts, d'.starts) ≡ laid ss k at d.parts d.starts
+
+abbrev pub RoomFor : List (List ℕ) → ℕ → Draft → Type 0
+RoomFor ss at d = Room ss at d.starts d.parts
+
+abbrev pub Before : ℕ → ℕ → Draft → Type 0
+Before p at d = Next p at d.starts d.parts
 
 -- the parameter at place p, of parts whose places start where the list says
 unfoldable pub part_at : List ℕ → List ℕ → ℕ → List ℕ

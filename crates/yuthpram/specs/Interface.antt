@@ -50,40 +50,40 @@ counting k (accepted n) = accepted k
 counting k (refused e) = refused e
 
 -- NUMBERS
-unfoldable pub number_size : ℕ → ℕ → ℕ × ℕ
+abbrev pub number_size : ℕ → ℕ → ℕ × ℕ
 number_size v n = count_code (size_number v) n
 
 abbrev pub number_into : Outcome (ℕ × ℕ) → ℕ → ℕ → ℕ × ℕ × ℕ
 number_into (accepted a) v n = (0, a.0, a.1)
 number_into (refused e) v n = (e, v, n)
 
-unfoldable pub number_read : List ℕ → ℕ → ℕ → ℕ × ℕ × ℕ
+abbrev pub number_read : List ℕ → ℕ → ℕ → ℕ × ℕ × ℕ
 number_read src v n = number_into (read_number src) v n
 
-unfoldable pub number_write : ℕ → List ℕ → ℕ → ℕ × List ℕ × ℕ
+abbrev pub number_write : ℕ → List ℕ → ℕ → ℕ × List ℕ × ℕ
 number_write v out n = counted (write_number v out) n
 
 -- CONNECTION IDs. The image of an ID, and the byte count of what was read
-unfoldable pub cid_store : ConnectionId × ℕ → List ℕ → Outcome ℕ × List ℕ
+abbrev pub cid_store : ConnectionId × ℕ → List ℕ → Outcome ℕ × List ℕ
 cid_store a out = (counting a.1 (store (cid_image a.0) out).0, (store (cid_image a.0) out).1)
 
-unfoldable pub cid_read : List ℕ → List ℕ → ℕ → ℕ × List ℕ × ℕ
+abbrev pub cid_read : List ℕ → List ℕ → ℕ → ℕ × List ℕ × ℕ
 cid_read src cid n = counted (given (read_cid src) cid_store cid) n
 
-unfoldable pub cid_write : List ℕ → List ℕ → ℕ → ℕ × List ℕ × ℕ
+abbrev pub cid_write : List ℕ → List ℕ → ℕ → ℕ × List ℕ × ℕ
 cid_write cid out n = counted (given (cid_from cid) write_cid out) n
 
 -- RECORDS
-unfoldable pub record_default : List ℕ → ℕ × List ℕ
+abbrev pub record_default : List ℕ → ℕ × List ℕ
 record_default image = coded (record_store default_record image)
 
-unfoldable pub record_check : List ℕ → ℕ → ℕ
+abbrev pub record_check : List ℕ → ℕ → ℕ
 record_check image side = code (image_check image (side_of side))
 
-unfoldable pub record_read : ℕ → List ℕ → List ℕ → ℕ × List ℕ
+abbrev pub record_read : ℕ → List ℕ → List ℕ → ℕ × List ℕ
 record_read side src image = coded (image_read (side_of side) src image)
 
-unfoldable pub order_check : List ℕ → ℕ
+abbrev pub order_check : List ℕ → ℕ
 order_check order = pick (permutation order) 0 6
 
 -- 6 and the position of the first fault; 0, and the position as it was, if nothing is wrong
@@ -91,20 +91,20 @@ abbrev pub position_into : Option ℕ → ℕ → ℕ × ℕ
 position_into (some k) n = (6, k)
 position_into none n = (0, n)
 
-unfoldable pub order_position : List ℕ → ℕ → ℕ × ℕ
+abbrev pub order_position : List ℕ → ℕ → ℕ × ℕ
 order_position order position = position_into (order_fault order) position
 
-unfoldable pub record_write : List ℕ → List ℕ → ℕ → ℕ × List ℕ × ℕ
+abbrev pub record_write : List ℕ → List ℕ → ℕ → ℕ × List ℕ × ℕ
 record_write image out n = counted (image_write image out) n
 
-unfoldable pub record_length : List ℕ → ℕ → ℕ × ℕ
+abbrev pub record_length : List ℕ → ℕ → ℕ × ℕ
 record_length image n = count_code (image_length image) n
 
-unfoldable pub tidied : ℕ → List ℕ → List ℕ → ℕ → ℕ × List ℕ × ℕ
+abbrev pub tidied : ℕ → List ℕ → List ℕ → ℕ → ℕ × List ℕ × ℕ
 tidied side src out n = counted (tidy (side_of side) src out) n
 
 -- BUILDING. The settings in the order of the header: an idle timeout of 0 is none, and so is a buffer size without its flag
-unfoldable pub settings_from : List ℕ → Settings
+abbrev pub settings_from : List ℕ → Settings
 settings_from s =
     record {
       max_concurrent_bidi_streams = get_or s 0 0;
@@ -133,16 +133,16 @@ unfoldable pub new_record : List ℕ → List ℕ → ℕ → List ℕ → List 
 new_record settings cid draw payload order =
     pick (eqb (length settings) 12) (build_from (settings_from settings) (cid_from cid) draw payload order) (refused 7)
 
-unfoldable pub record_new : List ℕ → List ℕ → ℕ → List ℕ → List ℕ → List ℕ → ℕ × List ℕ
+abbrev pub record_new : List ℕ → List ℕ → ℕ → List ℕ → List ℕ → List ℕ → ℕ × List ℕ
 record_new settings cid draw payload order image = coded (given (new_record settings cid draw payload order) record_store image)
 
 -- RESUMPTION
-unfoldable pub resume_check : List ℕ → List ℕ → ℕ
+abbrev pub resume_check : List ℕ → List ℕ → ℕ
 resume_check image cached = code (image_resume image cached)
 
 abbrev pub limit_into : Outcome TransportParameters → ℕ → ℕ × ℕ
 limit_into (accepted r) n = (0, issue_limit r)
 limit_into (refused e) n = (e, n)
 
-unfoldable pub limit_read : List ℕ → ℕ → ℕ × ℕ
+abbrev pub limit_read : List ℕ → ℕ → ℕ × ℕ
 limit_read image limit = limit_into (record_from image) limit

@@ -1,12 +1,12 @@
-// What --help says, and the usage.
+// What --help says, the usage, and complaints.
 use crate::Status;
-use text::out::{Out, Stream, note, put, say};
+use crate::complaint::Complaint;
+use std::alloc::Global;
+use std::io::Error;
+use text::out::Out;
 
-fn usage(out: &mut Out, to: Stream) {
-    put(
-        out,
-        to,
-        b"yuthpram: the transport parameter extension of QUIC. SIDE is client or server: the side that reads it
+const USAGE: &str =
+    "yuthpram: the transport parameter extension of QUIC. SIDE is client or server: the side that reads it
   yuthpram read SIDE [HEX]             show what an extension says to SIDE
   yuthpram tidy SIDE [HEX]             write it anew in its shortest form
   yuthpram check SIDE [HEX]            tell whether SIDE accepts it
@@ -18,26 +18,9 @@ fn usage(out: &mut Out, to: Stream) {
                                        tell whether a record may be resumed to from the remembered one in CACHED, and if not, what is reduced
   yuthpram number HEX                  decode a number: its value and how many bytes it takes
   yuthpram number --write DECIMAL      encode a number in its shortest form
-",
-    );
-}
+";
 
-// A complaint about words that no command takes.
-pub fn misused(out: &mut Out, what: &[u8]) -> Status {
-    note(out, what);
-    usage(out, Stream::Error);
-    Status::Misused
-}
-
-pub fn note_surplus(out: &mut Out) -> Status {
-    misused(out, b"yuthpram: a word too many\n")
-}
-
-pub fn say_help(out: &mut Out) -> Status {
-    usage(out, Stream::Output);
-    say(
-        out,
-        b"
+const DETAILS: &str = "
 HEX may have spaces and colons in it. Without HEX, FILE or PLACE, standard input is read; --raw in the place of HEX takes the bytes of standard
 input as they are. An extension, and a record in text form, may have 65536 bytes. The entries of an order are decimal, at most 255 of
 them, and positions count from 0.
@@ -50,7 +33,45 @@ not show:
   # ..                                 a comment
 
 Answers go to standard output; refusals, complaints, what tidying saved and the length of a record that is shown or written to standard
-error. Exit status: 0 answered, 1 refused, 2 not called as it should be, 3 the answer could not be written.\n",
-    );
+error. Exit status: 0 answered, 1 refused, 2 not called as it should be, 3 the answer could not be written.\n";
+
+pub fn say_help(out: &mut Out) -> Status {
+    out.say(USAGE);
+    out.say(DETAILS);
     Status::Answered
+}
+
+// The words of the system's complaint, without its number.
+fn words_of(text: &str) -> &str {
+    match text.split_once(" (os error ") {
+        Some((words, _)) => words,
+        None => text,
+    }
+}
+
+// What could not be read, and why.
+fn note_unread(out: &mut Out, alloc: Global, what: &str, e: Error) {
+    match format!(in alloc; "{e}") {
+        Ok(text) => {
+            let words = words_of(text.as_str());
+            out.note(format_args!("{what}: {words}\n"));
+        }
+        Err(_) => out.note(format_args!("{what}: no memory is left\n")),
+    }
+}
+
+pub fn complain(out: &mut Out, alloc: Global, complaint: Complaint<'_>) -> Status {
+    let is_of_usage = complaint.is_of_usage();
+    match complaint {
+        Complaint::Unread(what, e) => note_unread(out, alloc, what, e),
+        Complaint::NotUtf8(path) => {
+            out.note_bytes(path);
+            out.note(": the name is not UTF-8\n");
+        }
+        _ => out.note(format_args!("yuthpram: {complaint}\n")),
+    }
+    if is_of_usage {
+        out.note(USAGE);
+    }
+    Status::Misused
 }

@@ -1,275 +1,195 @@
-// A command's arguments and its input.
-ghost use Rattle.std.specs.Prelude.{◌≡◌, ◌≤◌, length};
-
-use crate::help;
+// The words of the command line, and a command's input.
+use crate::complaint::Complaint;
 use rules::Side;
-use std::alloc::Global;
+use std::alloc::{AllocError, Global};
 use std::env::{Env, FillError};
 use std::fs;
-use std::io::{Error, Read};
-use text::out::{Out, note, note_number};
-use text::{Hex, parse_hex, position, put_number, word};
+use std::io::Read;
+use text::{parse_decimal, parse_hex, word};
 
-// The input's bytes, of which there are so many; or there is a complaint.
-#[derive(Drop)]
-pub enum Input {
-    Bytes(usize),
-    Bad,
-}
-
-#[derive(Drop)]
-pub enum SideWord {
-    Is(Side),
-    Missing,
-}
-
-// The limits, in bytes and in characters of hexadecimal text.
-pub const LIMIT: usize = 65536;
+// The limits, in bytes, in characters of hexadecimal text, and in entries of an order.
+const LIMIT: usize = 65536;
 
 const TEXT_LIMIT: usize = 262144;
 
-// The room for a path.
+const ENTRY_LIMIT: usize = 255;
+
+// The longest path, and the longest decimal number.
 const PATH_LIMIT: usize = 4096;
 
-// Stores argument `i` at the front of a buffer; 0 if there is none, or no room for it.
-pub fn arg(rt: &HostRuntime, i: usize, buffer: &mut [u8]) -> usize
-    ensures { result ≤ length buffer.new }
-{
-    match rt.arg(i, buffer) {
-        Ok(n) => n,
-        Err(_) => 0,
-    }
+const DIGIT_LIMIT: usize = 32;
+
+// The words of the command line, of which the first is the program's name. In place of one of over `TEXT_LIMIT` bytes stands none.
+#[derive(Drop)]
+pub struct Args {
+    words: Vec<Option<Vec<u8>>>,
 }
 
-// Whether there is argument `i`; the program's name is argument 0.
-pub fn is_given(rt: &HostRuntime, i: usize) -> bool {
-    let mut buffer = [0u8; 1];
-    match rt.arg(i, &mut buffer) {
-        Ok(_) => true,
-        Err(FillError::TooLong) => true,
-        Err(FillError::NotPresent) => false,
+impl Args {
+    pub fn read(rt: &HostRuntime) -> Result<Args, AllocError> {
+        let alloc = rt.alloc();
+        let mut words = Vec::new(alloc);
+        let mut buffer = vec![in alloc; 0u8; TEXT_LIMIT]?;
+        for i in 0..usize::MAX {
+            match rt.arg(i, buffer.as_mut_slice()) {
+                Ok(n) => {
+                    let word = Vec::from_slice(alloc, &buffer[..n])?;
+                    words.push(Some(word))?;
+                }
+                Err(FillError::TooLong) => words.push(None)?,
+                Err(FillError::NotPresent) => break,
+            }
+        }
+        Ok(Args { words })
     }
-}
 
-// Which of the first `n` words of a list argument `i` is; `n` if none.
-pub fn choice(rt: &HostRuntime, i: usize, list: &[u8], n: usize) -> usize {
-    let mut buffer = [0u8; 32];
-    let m = arg(rt, i, &mut buffer);
-    position(list, n, &buffer[..m])
-}
-
-// The side that argument 2 names, if it is to name one.
-pub fn side_for(rt: &HostRuntime, out: &mut Out, is_named: bool) -> SideWord {
-    if !is_named {
-        return SideWord::Is(Side::Client);
+    pub fn is_given(&self, i: usize) -> bool {
+        i < self.words.len()
     }
-    match choice(rt, 2, b"client server", 2) {
-        0 => SideWord::Is(Side::Client),
-        1 => SideWord::Is(Side::Server),
-        _ => {
-            note(
-                out,
-                b"yuthpram: the side that reads is client or server (try --help)\n",
-            );
-            SideWord::Missing
+
+    // Whether there are words behind word `i`.
+    pub fn is_followed(&self, i: usize) -> bool {
+        self.is_given(i.saturating_add(1))
+    }
+
+    // Word `i`; empty if there is none, or if it has more than `limit` bytes.
+    fn word(&self, i: usize, limit: usize) -> &[u8] {
+        match self.words.get(i) {
+            Some(Some(word)) if word.len() <= limit => word.as_slice(),
+            _ => &[],
         }
     }
-}
 
-// Whether there are arguments behind argument `i`.
-pub fn is_followed(rt: &HostRuntime, i: usize) -> bool {
-    is_given(rt, i.saturating_add(1))
-}
-
-// The first `n` of some bytes; all if there are fewer.
-pub fn first<'a>(n: usize, bytes: &'a [u8]) -> &'a [u8] {
-    if n <= bytes.len() {
-        return &bytes[0..n];
+    // Word `i`, as the name of a command, an option or a side.
+    pub fn name(&self, i: usize) -> &[u8] {
+        self.word(i, TEXT_LIMIT)
     }
-    bytes
-}
 
-fn bad(out: &mut Out, text: &[u8]) -> Input {
-    note(out, text);
-    Input::Bad
-}
-
-fn too_long(out: &mut Out) -> Input {
-    bad(
-        out,
-        b"yuthpram: the input is over the limit of 65536 bytes, or of 262144 characters of hexadecimal\n",
-    )
-}
-
-// The words of the system's complaint, without its number.
-fn words_of(text: &str) -> &str {
-    match text.split_once(" (os error ") {
-        Some((words, _)) => words,
-        None => text,
+    // The number that word `i` is.
+    pub fn number(&self, i: usize) -> Option<u64> {
+        parse_decimal(self.word(i, DIGIT_LIMIT))
     }
-}
 
-// Tells what could not be read, and why.
-fn unreadable(out: &mut Out, alloc: Global, what: &[u8], e: Error) -> Input {
-    note(out, what);
-    note(out, b": ");
-    match format!(in alloc; "{e}") {
-        Ok(text) => note(out, words_of(text.as_str()).as_bytes()),
-        Err(_) => note(out, b"no memory is left"),
-    }
-    bad(out, b"\n")
-}
-
-// Puts the arguments from `start` on at the front of `buffer`, a space after each.
-fn join(rt: &HostRuntime, out: &mut Out, start: usize, buffer: &mut [u8]) -> Input {
-    let mut at: usize = 0;
-    for i in start..usize::MAX {
-        match rt.arg(i, &mut buffer[at..]) {
-            Ok(n) => at += n,
-            Err(FillError::TooLong) => return too_long(out),
-            Err(FillError::NotPresent) => return Input::Bytes(at),
+    // The words from word `start` on, a space after each.
+    fn text_from(
+        &self,
+        alloc: Global,
+        start: usize,
+        limit: usize,
+    ) -> Result<Vec<u8>, Complaint<'_>> {
+        let mut text = Vec::new(alloc);
+        for word in self.words.iter().skip(start) {
+            let Some(word) = word else {
+                return Err(Complaint::TooLong);
+            };
+            if limit.saturating_sub(text.len()) <= word.len() {
+                return Err(Complaint::TooLong);
+            }
+            text.extend_from_slice(word.as_slice())?;
+            text.push(b' ')?;
         }
-        if buffer.len() <= at {
-            return too_long(out);
-        }
-        buffer[at] = b' ';
-        at += 1;
+        Ok(text)
     }
-    Input::Bytes(at)
+}
+
+// The side that word 2 names.
+pub fn side(args: &Args) -> Result<Side, Complaint<'_>> {
+    match args.name(2) {
+        b"client" => Ok(Side::Client),
+        b"server" => Ok(Side::Server),
+        _ => Err(Complaint::NoSide),
+    }
 }
 
 // All that can be read of a source.
-fn read_all<R: Read>(out: &mut Out, alloc: Global, source: &mut R, buffer: &mut [u8]) -> Input {
-    let mut n: usize = 0;
-    while n < buffer.len() {
-        match source.read(&mut buffer[n..]) {
-            Ok(0) => return Input::Bytes(n),
-            Ok(m) => n += m,
-            Err(e) => return unreadable(out, alloc, b"yuthpram: the input", e),
-        }
+fn read_all<'a, R: Read + Drop>(
+    alloc: Global,
+    source: R,
+    limit: usize,
+) -> Result<Vec<u8>, Complaint<'a>> {
+    let mut bytes = Vec::new(alloc);
+    let read = source
+        .take((limit as u64).saturating_add(1))
+        .read_to_end(&mut bytes);
+    if let Err(e) = read {
+        return Err(Complaint::Unread("yuthpram: the input", e));
     }
-    let mut more = [0u8; 1];
-    match source.read(&mut more) {
-        Ok(0) => Input::Bytes(n),
-        Ok(_) => too_long(out),
-        Err(e) => unreadable(out, alloc, b"yuthpram: the input", e),
+    if limit < bytes.len() {
+        return Err(Complaint::TooLong);
     }
-}
-
-// All that standard input holds.
-fn standard_input(rt: &HostRuntime, out: &mut Out, buffer: &mut [u8]) -> Input {
-    let mut source = rt.stdin();
-    read_all(out, rt.alloc(), &mut source, buffer)
-}
-
-fn hex_in(out: &mut Out, text: &[u8], buffer: &mut [u8]) -> Input {
-    match parse_hex(text, buffer, 0, LIMIT) {
-        Hex::Bytes(n) => Input::Bytes(n),
-        Hex::Strange(at) => {
-            note(out, b"yuthpram: no hexadecimal digit at character ");
-            note_number(out, at as u64);
-            bad(out, b" (counted from 0)\n")
-        }
-        Hex::Odd => bad(out, b"yuthpram: an odd number of hexadecimal digits\n"),
-        Hex::Long => too_long(out),
-    }
-}
-
-// The arguments from `start` on, or what standard input holds if there are none.
-fn text_at(rt: &HostRuntime, out: &mut Out, start: usize, buffer: &mut [u8]) -> Input {
-    if is_given(rt, start) {
-        join(rt, out, start, buffer)
-    } else {
-        standard_input(rt, out, buffer)
-    }
-}
-
-// The room for hexadecimal text.
-fn text_buffer() -> [u8; TEXT_LIMIT]
-    ensures { 262144 ≡ length result }
-{
-    [0; TEXT_LIMIT]
-}
-
-fn hex_at(rt: &HostRuntime, out: &mut Out, start: usize, buffer: &mut [u8]) -> Input {
-    let mut text = text_buffer();
-    match text_at(rt, out, start, &mut text) {
-        Input::Bad => Input::Bad,
-        Input::Bytes(n) => hex_in(out, first(n, &text), buffer),
-    }
+    Ok(bytes)
 }
 
 // What a file holds.
-fn file(rt: &HostRuntime, out: &mut Out, path: &[u8], buffer: &mut [u8]) -> Input {
+fn file<'a>(rt: &HostRuntime, path: &'a [u8]) -> Result<Vec<u8>, Complaint<'a>> {
     let Ok(name) = std::str::from_utf8(path) else {
-        note(out, path);
-        return bad(out, b": the name is not UTF-8\n");
+        return Err(Complaint::NotUtf8(path));
     };
     match fs::open(rt, name) {
-        Ok(source) => {
-            let mut source = source;
-            read_all(out, rt.alloc(), &mut source, buffer)
-        }
-        Err(e) => unreadable(out, rt.alloc(), path, e),
+        Ok(source) => read_all(rt.alloc(), source, LIMIT),
+        Err(e) => Err(Complaint::Unread(name, e)),
     }
 }
 
-// The file that argument `i` names, or standard input.
-pub fn file_at(rt: &HostRuntime, out: &mut Out, i: usize, buffer: &mut [u8]) -> Input {
-    if !is_given(rt, i) {
-        return standard_input(rt, out, buffer);
-    }
-    let mut path = [0u8; PATH_LIMIT];
-    let n = arg(rt, i, &mut path);
-    file(rt, out, &path[..n], buffer)
-}
-
-// The decimal numbers below 256 that a text lists, a byte for each; fewer than there is room for.
-fn entries_in(out: &mut Out, text: &[u8], buffer: &mut [u8]) -> Input {
-    for k in 0..buffer.len() {
-        let digits = word(text, k, b' ');
-        if digits.len() == 0 {
-            return Input::Bytes(k);
-        }
-        if !put_number(digits, 255, buffer, k, 1) {
-            note(out, b"yuthpram: no number of 0 to 255 at position ");
-            note_number(out, k as u64);
-            return bad(out, b" (counted from 0)\n");
-        }
-    }
-    bad(
-        out,
-        b"yuthpram: the order is over the limit of 255 entries\n",
-    )
-}
-
-// The entries of an order that argument `start` and those behind it are, or standard input lists.
-pub fn entries_at(rt: &HostRuntime, out: &mut Out, start: usize, buffer: &mut [u8]) -> Input {
-    let mut text = [0u8; LIMIT];
-    match text_at(rt, out, start, &mut text) {
-        Input::Bad => Input::Bad,
-        Input::Bytes(n) => entries_in(out, first(n, &text), buffer),
+// What the file that word `i` names holds, or standard input.
+pub fn file_at<'a>(rt: &HostRuntime, args: &'a Args, i: usize) -> Result<Vec<u8>, Complaint<'a>> {
+    if args.is_given(i) {
+        file(rt, args.word(i, PATH_LIMIT))
+    } else {
+        read_all(rt.alloc(), rt.stdin(), LIMIT)
     }
 }
 
-// What a command works on, by its words from `start` on: a record in text form, raw bytes from standard input, or hexadecimal text.
-pub fn input_at(
+// The words from word `start` on, or what standard input holds if there are none.
+fn text_at<'a>(
     rt: &HostRuntime,
-    out: &mut Out,
+    args: &'a Args,
     start: usize,
-    is_form: bool,
-    buffer: &mut [u8],
-) -> Input {
-    let is_raw = choice(rt, start, b"--raw", 1) == 0;
-    if !is_form && !is_raw {
-        return hex_at(rt, out, start, buffer);
+    limit: usize,
+) -> Result<Vec<u8>, Complaint<'a>> {
+    if args.is_given(start) {
+        args.text_from(rt.alloc(), start, limit)
+    } else {
+        read_all(rt.alloc(), rt.stdin(), limit)
     }
-    if is_followed(rt, start) {
-        help::note_surplus(out);
-        return Input::Bad;
+}
+
+// Bytes, in hexadecimal by the words from word `start` on or in standard input, or by --raw as standard input has them.
+pub fn bytes_at<'a>(
+    rt: &HostRuntime,
+    args: &'a Args,
+    start: usize,
+) -> Result<Vec<u8>, Complaint<'a>> {
+    if let b"--raw" = args.name(start) {
+        if args.is_followed(start) {
+            return Err(Complaint::Surplus);
+        }
+        return read_all(rt.alloc(), rt.stdin(), LIMIT);
     }
-    if is_form {
-        return file_at(rt, out, start, buffer);
+    let text = text_at(rt, args, start, TEXT_LIMIT)?;
+    let mut bytes = vec![in rt.alloc(); 0u8; LIMIT]?;
+    let n = parse_hex(text.as_slice(), bytes.as_mut_slice(), 0, LIMIT)?;
+    bytes.truncate(n);
+    Ok(bytes)
+}
+
+// The entries of an order that the words from word `start` on are, or standard input lists: decimal numbers below 256.
+pub fn entries_at<'a>(
+    rt: &HostRuntime,
+    args: &'a Args,
+    start: usize,
+) -> Result<Vec<u8>, Complaint<'a>> {
+    let text = text_at(rt, args, start, LIMIT)?;
+    let mut entries = Vec::new(rt.alloc());
+    for k in 0..=ENTRY_LIMIT {
+        let digits = word(text.as_slice(), k, b' ');
+        if digits.is_empty() {
+            return Ok(entries);
+        }
+        match parse_decimal(digits) {
+            Some(x) if x < 256 => entries.push(x as u8)?,
+            _ => return Err(Complaint::NoEntry(k)),
+        }
     }
-    standard_input(rt, out, buffer)
+    Err(Complaint::ManyEntries)
 }

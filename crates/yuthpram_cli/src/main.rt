@@ -2,17 +2,18 @@
 #![tactic(auto)]
 
 mod answers;
+mod complaint;
 mod help;
 mod input;
 
+use complaint::Complaint;
 use image::RECORD_SIZE;
-use input::{Input, LIMIT, SideWord, arg, choice, first, is_followed, is_given};
+use input::{Args, bytes_at, entries_at, file_at, side};
 use std::process::ExitCode;
-use text::DecimalText;
-use text::out::{Out, note};
+use text::out::{Fate, Out};
 
 // How a command ends.
-#[derive(Drop)]
+#[derive(Clone, Copy)]
 pub enum Status {
     Answered,
     Refused,
@@ -20,162 +21,130 @@ pub enum Status {
     Misused,
 }
 
-// The commands, by their place in the list of words.
-const READ: usize = 0;
-
-const TIDY: usize = 1;
-
-const CHECK: usize = 2;
-
-const WRITE: usize = 3;
-
-const LENGTH: usize = 4;
-
-const ORDER_FAULT: usize = 5;
-
-const VALIDATE_RESUMPTION_FROM: usize = 6;
-
-const NUMBER: usize = 7;
-
-fn encode_command(rt: &HostRuntime, out: &mut Out) -> Status {
-    if is_followed(rt, 3) {
-        return help::note_surplus(out);
-    }
-    let mut digits = [0u8; 32];
-    let n = arg(rt, 3, &mut digits);
-    match text::parse_decimal(&digits[..n]) {
-        DecimalText::Number(x) => answers::encode(out, x),
-        DecimalText::Strange => help::misused(out, b"yuthpram: not a decimal number\n"),
-    }
+// The record whose text form the file that word `i` names, or standard input, holds; by its image.
+fn record_at<'a>(
+    rt: &HostRuntime,
+    args: &'a Args,
+    i: usize,
+) -> Result<[u8; RECORD_SIZE], Complaint<'a>> {
+    let text = file_at(rt, args, i)?;
+    let record = form::image_of(text.as_slice())?;
+    Ok(record)
 }
 
-fn order_fault_command(rt: &HostRuntime, out: &mut Out) -> Status {
-    let mut order = [0u8; 256];
-    let Input::Bytes(n) = input::entries_at(rt, out, 2, &mut order) else {
-        return Status::Misused;
-    };
-    answers::order_fault(out, first(n, &order))
+// The same of the last word.
+fn last_record_at<'a>(
+    rt: &HostRuntime,
+    args: &'a Args,
+    i: usize,
+) -> Result<[u8; RECORD_SIZE], Complaint<'a>> {
+    if args.is_followed(i) {
+        return Err(Complaint::Surplus);
+    }
+    record_at(rt, args, i)
 }
 
-// Stores the image of the record whose text form is in the file that argument `i` names, or in standard input; tells whether it is understood.
-fn record_at(rt: &HostRuntime, out: &mut Out, i: usize, record: &mut [u8]) -> bool {
-    let mut src = [0u8; LIMIT];
-    match input::file_at(rt, out, i, &mut src) {
-        Input::Bytes(n) => form::fill(out, first(n, &src), record),
-        Input::Bad => false,
+fn check<'a>(rt: &HostRuntime, out: &mut Out, args: &'a Args) -> Result<Status, Complaint<'a>> {
+    let side = side(args)?;
+    if let b"--record" = args.name(3) {
+        let record = last_record_at(rt, args, 4)?;
+        return Ok(answers::check_record(out, side, &record));
     }
+    let src = bytes_at(rt, args, 3)?;
+    Ok(answers::check(out, side, src.as_slice()))
 }
 
-// Resumption from a remembered record, by its image.
-fn resume_from(rt: &HostRuntime, out: &mut Out, cached: &[u8]) -> Status {
-    let mut record = [0u8; RECORD_SIZE];
-    if record_at(rt, out, 3, &mut record) {
-        return answers::validate_resumption_from(out, &record, cached);
+fn validate_resumption_from<'a>(
+    rt: &HostRuntime,
+    out: &mut Out,
+    args: &'a Args,
+) -> Result<Status, Complaint<'a>> {
+    if !args.is_given(2) {
+        return Err(Complaint::NoRemembered);
     }
-    Status::Misused
-}
-
-fn validate_resumption_from_command(rt: &HostRuntime, out: &mut Out) -> Status {
-    let mut cached = [0u8; RECORD_SIZE];
-    if !is_given(rt, 2) {
-        return help::misused(out, b"yuthpram: no file of the remembered record\n");
+    if args.is_followed(3) {
+        return Err(Complaint::Surplus);
     }
-    if is_followed(rt, 3) {
-        return help::note_surplus(out);
-    }
-    if record_at(rt, out, 2, &mut cached) {
-        return resume_from(rt, out, &cached);
-    }
-    note(out, b"yuthpram: that was the remembered record\n");
-    Status::Misused
-}
-
-// Where the words of a command's input start: behind its side, if it names one, and behind --record.
-fn start_of(rt: &HostRuntime, command: usize) -> usize {
-    if CHECK < command {
-        return 2;
-    }
-    if command == CHECK {
-        if choice(rt, 3, b"--record", 1) == 0 {
-            return 4;
+    let cached = match record_at(rt, args, 2) {
+        Ok(cached) => cached,
+        Err(complaint) => {
+            let status = help::complain(out, rt.alloc(), complaint);
+            out.note("yuthpram: that was the remembered record\n");
+            return Ok(status);
         }
-    }
-    3
+    };
+    let record = record_at(rt, args, 3)?;
+    Ok(answers::validate_resumption_from(out, &record, &cached))
 }
 
-// The commands that take an input.
-fn operate(rt: &HostRuntime, out: &mut Out, command: usize) -> Status {
-    let SideWord::Is(side) = input::side_for(rt, out, command <= CHECK) else {
-        return Status::Misused;
-    };
-    let start = start_of(rt, command);
-    let is_record = start == 4;
-    let mut src = [0u8; LIMIT];
-    let is_form = is_record || command == WRITE || command == LENGTH;
-    let Input::Bytes(n) = input::input_at(rt, out, start, is_form, &mut src) else {
-        return Status::Misused;
-    };
-    let bytes = first(n, &src);
-    match command {
-        READ => answers::read(out, side, bytes, true),
-        TIDY => answers::tidy(out, side, bytes),
-        CHECK => answers::check(out, side, bytes, is_record),
-        WRITE => answers::write(out, bytes),
-        LENGTH => answers::length(out, bytes),
-        _ => answers::decode(out, bytes),
-    }
-}
-
-fn run(rt: &HostRuntime, out: &mut Out) -> Status {
-    if !is_given(rt, 1) {
-        return help::say_help(out);
-    }
-    let command = choice(
-        rt,
-        1,
-        b"read tidy check write length order_fault validate_resumption_from number --help -h",
-        10,
-    );
-    if command == NUMBER {
-        if choice(rt, 2, b"--write", 1) == 0 {
-            return encode_command(rt, out);
+fn number<'a>(rt: &HostRuntime, out: &mut Out, args: &'a Args) -> Result<Status, Complaint<'a>> {
+    if let b"--write" = args.name(2) {
+        if args.is_followed(3) {
+            return Err(Complaint::Surplus);
         }
+        let Some(x) = args.number(3) else {
+            return Err(Complaint::NotDecimal);
+        };
+        return Ok(answers::encode(out, x));
     }
-    if command == ORDER_FAULT {
-        return order_fault_command(rt, out);
+    let src = bytes_at(rt, args, 2)?;
+    Ok(answers::decode(out, src.as_slice()))
+}
+
+// The command that word 1 names.
+fn run<'a>(rt: &HostRuntime, out: &mut Out, args: &'a Args) -> Result<Status, Complaint<'a>> {
+    if !args.is_given(1) {
+        return Ok(help::say_help(out));
     }
-    if command == VALIDATE_RESUMPTION_FROM {
-        return validate_resumption_from_command(rt, out);
+    let status = match args.name(1) {
+        b"read" => {
+            let side = side(args)?;
+            answers::read(out, side, bytes_at(rt, args, 3)?.as_slice())
+        }
+        b"tidy" => {
+            let side = side(args)?;
+            answers::tidy(out, side, bytes_at(rt, args, 3)?.as_slice())
+        }
+        b"check" => check(rt, out, args)?,
+        b"write" => answers::write(out, &last_record_at(rt, args, 2)?),
+        b"length" => answers::length(out, &last_record_at(rt, args, 2)?),
+        b"order_fault" => answers::order_fault(out, entries_at(rt, args, 2)?.as_slice()),
+        b"validate_resumption_from" => validate_resumption_from(rt, out, args)?,
+        b"number" => number(rt, out, args)?,
+        b"--help" | b"-h" => help::say_help(out),
+        _ => return Err(Complaint::NoCommand),
+    };
+    Ok(status)
+}
+
+// Runs the command, and complains if it has no answer.
+fn answer(rt: &HostRuntime, out: &mut Out) -> Status {
+    let args = match Args::read(rt) {
+        Ok(args) => args,
+        Err(_) => return help::complain(out, rt.alloc(), Complaint::NoMemory),
+    };
+    match run(rt, out, &args) {
+        Ok(status) => status,
+        Err(complaint) => help::complain(out, rt.alloc(), complaint),
     }
-    if command <= NUMBER {
-        return operate(rt, out, command);
-    }
-    if command == 10 {
-        return help::misused(out, b"yuthpram: no such command\n");
-    }
-    help::say_help(out)
 }
 
 // What a shell says of a program that was ended since nobody read on.
 const UNREAD: u8 = 141;
 
 // The exit status, once all is written.
-fn code_of(status: Status, out: &Out) -> u8 {
-    if out.is_unread() {
-        return UNREAD;
-    }
-    if out.is_cut() {
-        return 3;
-    }
-    match status {
-        Status::Answered => 0,
-        Status::Refused => 1,
-        Status::Misused => 2,
+fn code_of(status: Status, fate: Fate) -> u8 {
+    match (fate, status) {
+        (Fate::Unread, _) => UNREAD,
+        (Fate::Cut, _) => 3,
+        (Fate::Written, Status::Answered) => 0,
+        (Fate::Written, Status::Refused) => 1,
+        (Fate::Written, Status::Misused) => 2,
     }
 }
 
 fn main(rt: HostRuntime) -> ExitCode {
     let mut out = Out::new(&rt);
-    let status = run(&rt, &mut out);
-    ExitCode::from(code_of(status, &out))
+    let status = answer(&rt, &mut out);
+    ExitCode::from(code_of(status, out.fate()))
 }

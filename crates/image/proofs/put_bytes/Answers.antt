@@ -1,22 +1,19 @@
--- `image::put_bytes` meets its contract. The invariant: the first `i` bytes are stored. Assumes nothing.
+-- `image::put_bytes` meets its contract. Assumes nothing.
+use Prim.Native.Nat.{◌+◌, ◌-◌}
 use native.Mathlib.Omega.{arith}
-use mathlib.Core.Path.{refl, ap, ◌∙◌}
-use lib.ListN.{length-set}
-use lib.Seq.{sets, take_all}
-use Rattle.image.proofs.Places.{one_more}
+use borrow.Author.Rules.{rules}
+use mathlib.Core.Path.{◌≡◌, refl, sym, ◌∙◌}
+use mathlib.Core.List.{append_assoc}
+use lib.ListN.{length, take, drop}
+use Rattle.std.proofs.lemmas.Slice.{put_mid-paste}
+use Rattle.std.proofs.lemmas.List.Edits.{paste_all, sets-eq}
 use Rattle.image.proofs.put_bytes.Goals as goal
 
-pub loop-i-init : goal.loop-i-init
-loop-i-init c = (omega arith, refl, refl)
-
-pub loop-i-preserved : goal.loop-i-preserved
-loop-i-preserved c =
-    let l = c.loop-i in
-    let a = c.args in
-    (omega arith, length-set l.out _ _ ∙ l.invariant.1, one_more a.out.now a.bytes.now l.out a.at l.i (omega arith) l.invariant.2)
-
 pub returns : goal.returns
-returns c =
-    let l = c.loop-i in
+returns g c =
     let a = c.args in
-    l.invariant.2 ∙ ap (sets a.out.now a.at) (take_all l.i a.bytes.now (omega arith))
+    let bs = a.bytes in
+    let s = a.out.now in
+    let long : length bs ≡ g.row.N = search rules in
+    put_mid-paste a.at (a.at + g.row.N - a.at) s c.copy_from_slice.new.self bs (length bs) c.copy_from_slice.ensures.after (omega arith) refl
+    ∙ (paste_all s a.at bs (length bs) refl ∙ (sym (append_assoc (take a.at s) bs (drop (a.at + length bs) s)) ∙ sym (sets-eq bs s a.at (omega arith))))

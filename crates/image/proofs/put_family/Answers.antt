@@ -1,13 +1,23 @@
 -- `image::put_family` meets its contract. Assumes nothing.
+use Prim.Native.Nat.{◌+◌}
 use native.Mathlib.Omega.{arith}
-use lib.ListN.{length-set}
-use Rattle.image.proofs.Stores.{family_stored}
+use borrow.Author.Rules.{rules}
+use mathlib.Core.Path.{◌≡◌, refl, ap, ◌∙◌}
+use lib.Seq.{sets}
+use Rattle.words.specs.Words.{bytes_of}
+use Rattle.record.specs.Values.{of_address}
+use Rattle.image.specs.Image.{family_parts}
+use Rattle.image.proofs.Stores.{put, behind, done, laid, flag_stored, joined_size}
 use Rattle.image.proofs.put_family.Goals as goal
 
-pub bounds-out-end-2 : goal.bounds-out-end-2
-bounds-out-end-2 c = simp length-set (omega arith)
+pub returns-clause-stored : goal.returns-clause-stored
+returns-clause-stored g c =
+    let a = c.args.a.now in
+    let at = c.args.at in
+    let port : c.to_be_bytes.result ≡ bytes_of 2 a.port = search rules in
+    laid c.args.out.now at (family_parts (of_address a))
+    (behind {k = at + 1 + g.row.N} c.put_behind.ensures.stored (flag_stored a.present c.from.ensures) refl (omega arith)
+    (put (c.put_bytes.ensures ∙ ap (sets c.put_behind.new.out (at + 1 + g.row.N)) port) refl done))
 
-pub returns : goal.returns
-returns c =
-    let a = c.args in
-    family_stored (a.present, a.ip.now, a.port) a.out.now _ a.at _ _ _ c.put_behind.ensures c.flag_byte.ensures c.low.ensures c.low-2.ensures
+pub returns-clause-size : goal.returns-clause-size
+returns-clause-size g c = omega (arith, joined_size (family_parts (of_address c.args.a.now)))

@@ -1,12 +1,12 @@
 -- `laying::lay_field` meets its contract. Assumes nothing.
 use native.Mathlib.Omega.{arith}
 use Prim.Native.Nat.{◌+◌, ◌≤◌}
-use mathlib.Core.Path.{◌≡◌, ap, sym, ◌∙◌}
+use mathlib.Core.Path.{◌≡◌, sym, ◌∙◌}
 use mathlib.Core.Bool.{true}
 use lib.ListN.{length}
 use Rattle.wire.proofs.Put.{stored}
-use Rattle.wire.proofs.Stored.{lent, behind, length_front}
-use Rattle.laying.proofs.Wide.{stays, is_field, Field, field, field_off, no_field, field_beyond, field_short, field_widely, wide_room}
+use Rattle.wire.proofs.Stored.{behind}
+use Rattle.laying.proofs.Wide.{is_field, Field, field, field_off, no_field, field_beyond, field_short, field_widely, wide_room}
 use Rattle.laying.proofs.lay_field.Goals as goal
 
 pub returns-then-not-due : goal.returns-then-not-due
@@ -18,19 +18,10 @@ returns-then-not-is_field c = no_field _ _ _ _ _ (sym c.is_field.ensures ∙ c.i
 pub returns-then-id : goal.returns-then-id
 returns-then-id c = rw c.if-not-due.false (field_beyond _ _ c.args.v.now c.args.out.now (omega arith))
 
-pub overflow_add-v : goal.overflow_add-v
-overflow_add-v c =
-    let whole : is_field c.args.n c.args.v.now ≡ true = sym c.is_field.ensures ∙ c.if-not-is_field.false in
-    let kept : Field c.args.n c.args.v.now = field _ _ (whole) in
-    omega (arith, kept.most)
-
 pub returns-then-out-v : goal.returns-then-out-v
 returns-then-out-v c =
     let whole : is_field c.args.n c.args.v.now ≡ true = sym c.is_field.ensures ∙ c.if-not-is_field.false in
     rw c.if-not-due.false (field_short _ _ c.args.v.now c.args.out.now (whole) (omega arith) (omega arith))
-
-pub put_wide-a-requires : goal.put_wide-a-requires
-put_wide-a-requires c = (omega arith, omega arith)
 
 pub overflow_add-b : goal.overflow_add-b
 overflow_add-b c =
@@ -51,19 +42,6 @@ slice_bounds-put_bytes-start c =
     let room : (c.put_wide-a.result ≤ 8) × (length c.put_wide-a.new.out ≡ length c.args.out.now) = wide_room _ _ c.args.out.now _ (omega arith) c.put_wide-a.ensures.0 c.put_wide-a.ensures.1 in
     omega (arith, room, kept.least)
 
-pub slice_bounds-put_bytes-end : goal.slice_bounds-put_bytes-end
-slice_bounds-put_bytes-end c =
-    let whole : is_field c.args.n c.args.v.now ≡ true = sym c.is_field.ensures ∙ c.if-not-is_field.false in
-    let kept : Field c.args.n c.args.v.now = field _ _ (whole) in
-    let room : (c.put_wide-a.result ≤ 8) × (length c.put_wide-a.new.out ≡ length c.args.out.now) = wide_room _ _ c.args.out.now _ (omega arith) c.put_wide-a.ensures.0 c.put_wide-a.ensures.1 in
-    omega (arith, room, kept.least)
-
-pub overflow_cast-out : goal.overflow_cast-out
-overflow_cast-out c =
-    let whole : is_field c.args.n c.args.v.now ≡ true = sym c.is_field.ensures ∙ c.if-not-is_field.false in
-    let kept : Field c.args.n c.args.v.now = field _ _ (whole) in
-    let f = kept in omega (arith, f.most, f.within)
-
 pub bounds-out-a : goal.bounds-out-a
 bounds-out-a c =
     let whole : is_field c.args.n c.args.v.now ≡ true = sym c.is_field.ensures ∙ c.if-not-is_field.false in
@@ -77,16 +55,6 @@ overflow_add-result c =
     let kept : Field c.args.n c.args.v.now = field _ _ (whole) in
     let room : (c.put_wide-a.result ≤ 8) × (length c.put_wide-a.new.out ≡ length c.args.out.now) = wide_room _ _ c.args.out.now _ (omega arith) c.put_wide-a.ensures.0 c.put_wide-a.ensures.1 in
     let f = kept in omega (arith, room, f.most, f.within)
-
-pub shape_of-out : goal.shape_of-out
-shape_of-out c =
-    let room : (c.put_wide-a.result ≤ 8) × (length c.put_wide-a.new.out ≡ length c.args.out.now) = wide_room _ _ c.args.out.now _ (omega arith) c.put_wide-a.ensures.0 c.put_wide-a.ensures.1 in
-    let a = c.put_wide-a.result in
-    let m = c.put_wide-a.new.out in
-    let v = c.args.v.now in
-    let r = room in
-    let l : length v ≤ length (lent (a + 1) m) = behind (length v) (a + 1) m (omega arith) in
-    stays (a + 1) a c.args.n c.args.out.now m c.put_bytes.new.out (omega arith) (ap length (stored _ v _ _ l c.put_bytes.ensures) ∙ length_front v _ l) r.1
 
 pub returns : goal.returns
 returns c =

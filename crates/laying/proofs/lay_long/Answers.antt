@@ -4,12 +4,9 @@ use Prim.Native.Nat.{◌+◌, ◌≤◌}
 use mathlib.Core.Path.{◌≡◌}
 use lib.ListN.{length}
 use Rattle.wire.proofs.Put.{number_size_lem}
-use Rattle.wire.proofs.Stored.{lent, behind}
-use Rattle.laying.proofs.Wide.{stays, number_widely, wide_room}
+use Rattle.wire.proofs.Stored.{behind}
+use Rattle.laying.proofs.Wide.{number_widely, wide_room}
 use Rattle.laying.proofs.lay_long.Goals as goal
-
-pub put_wide-a-requires : goal.put_wide-a-requires
-put_wide-a-requires c = (c.requires.0, omega (arith, c.requires.2))
 
 pub overflow_add-b : goal.overflow_add-b
 overflow_add-b c =
@@ -23,11 +20,6 @@ slice_bounds-put_wide-count c =
 
 pub slice_bounds-put_wide-start : goal.slice_bounds-put_wide-start
 slice_bounds-put_wide-start c =
-    let room : (c.put_wide-a.result ≤ 8) × (length c.put_wide-a.new.out ≡ length c.args.out.now) = wide_room _ _ c.args.out.now _ (omega (arith, c.requires.2)) c.put_wide-a.ensures.0 c.put_wide-a.ensures.1 in
-    omega (arith, room, c.requires.2)
-
-pub slice_bounds-put_wide-end : goal.slice_bounds-put_wide-end
-slice_bounds-put_wide-end c =
     let room : (c.put_wide-a.result ≤ 8) × (length c.put_wide-a.new.out ≡ length c.args.out.now) = wide_room _ _ c.args.out.now _ (omega (arith, c.requires.2)) c.put_wide-a.ensures.0 c.put_wide-a.ensures.1 in
     omega (arith, room, c.requires.2)
 
@@ -48,15 +40,6 @@ pub overflow_add-result : goal.overflow_add-result
 overflow_add-result c =
     let room : (c.put_wide-a.result ≤ 8) × (length c.put_wide-a.new.out ≡ length c.args.out.now) = wide_room _ _ c.args.out.now _ (omega (arith, c.requires.2)) c.put_wide-a.ensures.0 c.put_wide-a.ensures.1 in
     omega (arith, room, c.put_wide-n.ensures.0, number_size_lem c.args.x)
-
-pub shape_of-out : goal.shape_of-out
-shape_of-out c =
-    let room : (c.put_wide-a.result ≤ 8) × (length c.put_wide-a.new.out ≡ length c.args.out.now) = wide_room _ _ c.args.out.now _ (omega (arith, c.requires.2)) c.put_wide-a.ensures.0 c.put_wide-a.ensures.1 in
-    let a = c.put_wide-a.result in
-    let m = c.put_wide-a.new.out in
-    let r = room in
-    let l = c.requires.2 in
-    stays (a + 1) a c.put_wide-n.result c.args.out.now m c.put_wide-n.new.out (omega arith) (wide_room _ _ (lent (a + 1) m) _ (behind 8 (a + 1) m (omega arith)) c.put_wide-n.ensures.0 c.put_wide-n.ensures.1).1 r.1
 
 pub returns : goal.returns
 returns c =

@@ -12,17 +12,5 @@ returns-then-out-lt-WIDEST c = rw c.if-not-due.false (number_short _ _ c.args.ou
 pub returns-then-x : goal.returns-then-x
 returns-then-x c = rw c.if-not-due.false (number_beyond _ _ c.args.out.now (omega arith))
 
-pub lay_short-requires : goal.lay_short-requires
-lay_short-requires c = (omega arith, omega arith, omega arith)
-
-pub returns-then-id-lt64 : goal.returns-then-id-lt64
-returns-then-id-lt64 c = rw c.if-not-due.false c.lay_short.ensures
-
 pub returns-then-id : goal.returns-then-id
 returns-then-id c = rw c.if-not-due.false (id_beyond _ _ c.args.out.now (omega arith))
-
-pub lay_long-requires : goal.lay_long-requires
-lay_long-requires c = (omega arith, omega arith, omega arith)
-
-pub returns : goal.returns
-returns c = rw c.if-not-due.false c.lay_long.ensures

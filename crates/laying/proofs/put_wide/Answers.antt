@@ -1,6 +1,5 @@
 -- `laying::put_wide` meets its contract. Assumes nothing.
 use native.Mathlib.Omega.{arith}
-use Rattle.words.proofs.Copied.{copied_whole}
 use Rattle.varint.proofs.Bytes.{tag_le, tag_room}
 use Rattle.laying.proofs.Wide.{wide_stored}
 use mathlib.Core.Path.{refl, ◌∙◌}
@@ -15,4 +14,4 @@ overflow_shl-result c = omega (arith, c.tag_of-tag.ensures, tag_le c.args.x)
 pub returns : goal.returns
 returns c =
     let o = c.args.out.now in
-    wide_stored c.args.x _ _ _ o _ c.tag_of-tag.ensures refl c.wide_form.ensures (c.put_word.ensures ∙ copied_whole _ o c.requires.1)
+    wide_stored c.args.x _ _ _ o c.tag_of-tag.ensures refl (c.copy_from_slice.ensures.after ∙ c.wide_form.ensures)

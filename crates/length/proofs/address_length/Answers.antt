@@ -4,4 +4,4 @@ use Rattle.length.proofs.address_length.Goals as goal
 
 pub returns : goal.returns
 unfolding id_at ids
-returns c = rw c.size.ensures at c.value_length.ensures
+returns c = rw c.from-n.ensures at c.value_length.ensures

@@ -8,10 +8,13 @@ pub returns-then-not-due : goal.returns-then-not-due
 returns-then-not-due c = rw c.if-not-due.true (not_due _ _)
 
 pub overflow_add-result : goal.overflow_add-result
-overflow_add-result c = omega (arith, c.requires, number_size_lem c.args.id, number_size_lem c.args.n, c.size_of.ensures, c.size_of-2.ensures)
+overflow_add-result c = omega (arith, number_size_lem c.args.id, number_size_lem c.from.result, c.size_of.ensures, c.size_of-2.ensures)
 
 pub overflow_add-result-2 : goal.overflow_add-result-2
-overflow_add-result-2 c = omega (arith, c.requires, number_size_lem c.args.id, number_size_lem c.args.n, c.size_of.ensures, c.size_of-2.ensures)
+overflow_add-result-2 c = omega (arith, number_size_lem c.args.id, number_size_lem c.from.result, c.size_of.ensures, c.size_of-2.ensures)
+
+pub overflow_cast-result : goal.overflow_cast-result
+overflow_cast-result c = omega (arith, number_size_lem c.args.id, number_size_lem c.from.result, c.size_of.ensures, c.size_of-2.ensures)
 
 pub returns : goal.returns
-returns c = rw c.if-not-due.false (is_due _ _ _ _ c.requires c.size_of.ensures c.size_of-2.ensures)
+returns c = rw (c.if-not-due.false, c.from-2.ensures) (is_due _ _ _ _ c.size_of.ensures (rw c.from.ensures at c.size_of-2.ensures))

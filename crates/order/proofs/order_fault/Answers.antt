@@ -1,38 +1,28 @@
--- `order::order_fault` meets its contract. The invariant: no entry before `i` is at fault, and these are marked. The measure is what is left of 22
--- entries: the pass has no more turns, however long the order. Assumes nothing.
-use Prim.Native.Nat.{◌<◌}
-use native.Mathlib.Omega.{arith}
-use mathlib.Core.Path.{◌≡◌, refl, sym, ◌∙◌}
-use mathlib.Core.Bool.{true, false}
-use lib.ListN.{get_or}
-use borrow.Author.Tests.{lt-leb}
+-- `order::order_fault` meets its contract. The invariant: no entry before `i` is at fault, and these are marked. Assumes nothing.
+use mathlib.Core.Path.{refl, sym, ◌∙◌}
 use Rattle.marks.proofs.Laws.{unmarked}
-use Rattle.catalogue.specs.Catalogue.{places}
-use Rattle.order.specs.Order.{repeats}
-use Rattle.order.proofs.Faults.{turns, at_fault, one_more, met_more}
+use Rattle.order.proofs.Faults.{at_outside, at_repeat, next_met}
 use Rattle.order.proofs.order_fault.Goals as goal
+use Rattle.order.proofs.order_fault.Goals.{then-place-ge-PLACES-via-then-place-ge-PLACES, then-place-ge-PLACES-via-else-place-ge-PLACES+then-is_marked}
 
 pub loop-i-init : goal.loop-i-init
-loop-i-init c = (omega arith, refl, unmarked)
+loop-i-init c = (refl, unmarked)
 
-pub returns-then-is_marked : goal.returns-then-is_marked
-returns-then-is_marked c =
+pub returns-then-place-ge-PLACES : goal.returns-then-place-ge-PLACES
+returns-then-place-ge-PLACES c =
     let l = c.loop-i in
     let os = c.args.order.now in
-    let p : get_or os l.i 0 < places = omega (arith, c.size-place.ensures) in
-    let m : repeats os l.i ≡ true = sym (l.invariant.2 (get_or os l.i 0)) ∙ rw c.size-place.ensures at (sym c.is_marked.ensures ∙ c.if-is_marked.true) in
-    at_fault os l.i l.invariant.1 (omega arith) (rw (lt-leb places (get_or os l.i 0) p, m))
-
-pub loop-i-smaller : goal.loop-i-smaller
-loop-i-smaller c =
-    let l = c.loop-i in
-    omega (arith, turns c.args.order.now l.i l.invariant.0 l.invariant.1)
+    let i = l.invariant in
+    elim c.then-place-ge-PLACES.branch [
+      | then-place-ge-PLACES-via-then-place-ge-PLACES w ↦ at_outside os l.i i.0 c.loop-i-test.true (rw c.from-place.ensures at w.if-place-ge-PLACES.true)
+      | then-place-ge-PLACES-via-else-place-ge-PLACES+then-is_marked w ↦
+          at_repeat os l.i i.0 l.met i.1 c.loop-i-test.true (rw c.from-place.ensures at w.if-place-ge-PLACES.false) (rw c.from-place.ensures at (sym w.is_marked.ensures ∙ w.if-is_marked.true))
+    ]
 
 pub loop-i-preserved : goal.loop-i-preserved
 loop-i-preserved c =
     let l = c.loop-i in
-    let os = c.args.order.now in
-    let p : get_or os l.i 0 < places = omega (arith, c.size-place.ensures) in
-    let m : repeats os l.i ≡ false = sym (l.invariant.2 (get_or os l.i 0)) ∙ rw c.size-place.ensures at (sym c.is_marked.ensures ∙ c.if-is_marked.false) in
-    let w = rw c.size-place.ensures at c.with_mark-met.ensures in
-    (omega arith, one_more os l.i l.invariant.1 (rw (lt-leb places (get_or os l.i 0) p, m)), rw w (met_more os l.i l.met (omega arith) p l.invariant.2))
+    let p = rw c.from-place.ensures at c.if-place-ge-PLACES.false in
+    let m = rw c.from-place.ensures at (sym c.is_marked.ensures ∙ c.if-is_marked.false) in
+    let w = rw c.from-place.ensures at c.with_mark-met.ensures in
+    rw w (next_met c.args.order.now l.i l.invariant.0 l.met l.invariant.1 c.loop-i-test.true p m)

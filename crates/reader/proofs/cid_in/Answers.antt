@@ -1,18 +1,18 @@
 -- `reader::cid_in` meets its contract. Assumes nothing.
-use mathlib.Core.Bool.{false}
-use mathlib.Core.Path.{◌≡◌}
+use borrow.Author.Tests.{leb-true}
+use Rattle.catalogue.specs.Catalogue.{fits}
 use Rattle.record.specs.Values.{cid_in}
+use Rattle.record.proofs.Defaults.{cid_absent}
 use Rattle.reader.proofs.Built.{made_ok, cid_new}
 use Rattle.reader.proofs.cid_in.Goals as goal
 
-pub returns-then-not-present : goal.returns-then-not-present
-returns-then-not-present c = let h : c.args.present ≡ false = c.if-not-present.true in rw h c.absent.ensures
+pub unwrap-requires : goal.unwrap-requires
+unfolding fits
+unwrap-requires c = made_ok _ _ c.new.ensures (leb-true _ _ (rw c.in-Some.is at c.requires))
 
-pub unwrap-cid-requires : goal.unwrap-cid-requires
-unwrap-cid-requires c = made_ok _ _ c.new.ensures (c.requires c.if-not-present.false)
+pub returns-in-Some : goal.returns-in-Some
+unfolding fits cid_in
+returns-in-Some c = rw (c.in-Some.is, cid_new _ _ _ c.new.ensures (leb-true _ _ (rw c.in-Some.is at c.requires)) c.unwrap.ensures)
 
-pub returns : goal.returns
-unfolding cid_in
-returns c =
-    let h = c.if-not-present.false in
-    rw (h, cid_new _ _ c.args.v.now c.new.ensures (c.requires h) c.unwrap-cid.ensures)
+pub returns-in-None : goal.returns-in-None
+returns-in-None c = let d = c.default.ensures in rw c.in-None.is (cid_absent _ d.0 d.1.0 d.1.1)

@@ -1,5 +1,4 @@
 -- `reader::read` meets its contract: what is kept, as a record. Assumes nothing.
-use mathlib.Core.Path.{sym}
 use Rattle.refusal.proofs.Laws.{raised}
 use Rattle.index.proofs.Sound.{sound}
 use Rattle.reader.proofs.Indexed.{read_stopped, read_kept}

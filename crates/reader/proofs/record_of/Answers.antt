@@ -1,47 +1,54 @@
 -- `reader::record_of` meets its contract: field by field. Assumes nothing.
-use mathlib.Core.Path.{refl}
 use native.Mathlib.Omega.{arith}
+use mathlib.Core.Path.{refl, ◌∙◌}
 use Rattle.catalogue.specs.Catalogue.{cid, token, address, kind_at, kinds, other_kinds}
+use Rattle.record.proofs.Defaults.{reserved_absent, order_absent}
+use Rattle.index.proofs.Parts.{sound_within}
 use Rattle.reader.specs.Kept.{record_from}
-use Rattle.reader.proofs.Indexed.{kept_at, cid_no, token_no, address_no}
+use Rattle.reader.proofs.Indexed.{kept_fits, no_number, cid_no, token_no, address_no}
 use Rattle.reader.proofs.record_of.Goals as goal
 
-pub token_at-stateless_reset_token-requires : goal.token_at-stateless_reset_token-requires
+pub cid_in-requires : goal.cid_in-requires
 unfolding kind_at kinds other_kinds
-token_at-stateless_reset_token-requires c = kept_at token c.args.src.now c.args.marks c.args.kept.now c.args.lens.now c.requires 12 refl token_no
+cid_in-requires c = rw (c.value.ensures ∙ sound_within _ _ 17 (omega arith) (no_number 17 cid refl cid_no) c.requires) (kept_fits cid _ _ c.requires 17 refl cid_no)
 
-pub address_at-preferred_address-requires : goal.address_at-preferred_address-requires
+pub cid_in-requires-2 : goal.cid_in-requires-2
 unfolding kind_at kinds other_kinds
-address_at-preferred_address-requires c = kept_at address c.args.src.now c.args.marks c.args.kept.now c.args.lens.now c.requires 15 refl address_no
+cid_in-requires-2 c = rw (c.value-2.ensures ∙ sound_within _ _ 16 (omega arith) (no_number 16 cid refl cid_no) c.requires) (kept_fits cid _ _ c.requires 16 refl cid_no)
 
-pub cid_at-original_dst_cid-requires : goal.cid_at-original_dst_cid-requires
+pub cid_in-requires-3 : goal.cid_in-requires-3
 unfolding kind_at kinds other_kinds
-cid_at-original_dst_cid-requires c = (omega arith, kept_at cid c.args.src.now c.args.marks c.args.kept.now c.args.lens.now c.requires 16 refl cid_no)
+cid_in-requires-3 c = rw (c.value-3.ensures ∙ sound_within _ _ 18 (omega arith) (no_number 18 cid refl cid_no) c.requires) (kept_fits cid _ _ c.requires 18 refl cid_no)
 
-pub cid_at-initial_src_cid-requires : goal.cid_at-initial_src_cid-requires
+pub token_in-requires : goal.token_in-requires
 unfolding kind_at kinds other_kinds
-cid_at-initial_src_cid-requires c = (omega arith, kept_at cid c.args.src.now c.args.marks c.args.kept.now c.args.lens.now c.requires 17 refl cid_no)
+token_in-requires c = rw (c.value-4.ensures ∙ sound_within _ _ 12 (omega arith) (no_number 12 token refl token_no) c.requires) (kept_fits token _ _ c.requires 12 refl token_no)
 
-pub cid_at-retry_src_cid-requires : goal.cid_at-retry_src_cid-requires
+pub address_in-requires : goal.address_in-requires
 unfolding kind_at kinds other_kinds
-cid_at-retry_src_cid-requires c = (omega arith, kept_at cid c.args.src.now c.args.marks c.args.kept.now c.args.lens.now c.requires 18 refl cid_no)
+address_in-requires c = rw (c.value-5.ensures ∙ sound_within _ _ 15 (omega arith) (no_number 15 address refl address_no) c.requires) (kept_fits address _ _ c.requires 15 refl address_no)
 
 pub returns : goal.returns
-unfolding record_from
+unfolding record_from kind_at kinds other_kinds
 returns c =
+    let x = c.default.ensures in
+    let o = c.default-2.ensures in
     rw (
-      c.numbers_of-numbers.ensures,
-      c.is_marked.ensures,
-      c.optional_in.ensures,
-      c.is_marked-2.ensures,
-      c.cid_at-initial_src_cid.ensures,
-      c.is_marked-3.ensures,
-      c.optional_in-2.ensures,
-      c.is_marked-4.ensures,
-      c.cid_at-original_dst_cid.ensures,
-      c.cid_at-retry_src_cid.ensures,
-      c.token_at-stateless_reset_token.ensures,
-      c.address_at-preferred_address.ensures,
-      c.absent.ensures,
-      c.absent-2.ensures,
+      c.numbers.ensures,
+      c.is_met.ensures,
+      c.number.ensures,
+      c.cid_in.ensures,
+      c.value.ensures ∙ sound_within _ _ 17 (omega arith) (no_number 17 cid refl cid_no) c.requires,
+      c.is_met-2.ensures,
+      c.number-2.ensures,
+      c.cid_in-2.ensures,
+      c.value-2.ensures ∙ sound_within _ _ 16 (omega arith) (no_number 16 cid refl cid_no) c.requires,
+      c.cid_in-3.ensures,
+      c.value-3.ensures ∙ sound_within _ _ 18 (omega arith) (no_number 18 cid refl cid_no) c.requires,
+      c.token_in.ensures,
+      c.value-4.ensures ∙ sound_within _ _ 12 (omega arith) (no_number 12 token refl token_no) c.requires,
+      c.address_in.ensures,
+      c.value-5.ensures ∙ sound_within _ _ 15 (omega arith) (no_number 15 address refl address_no) c.requires,
+      reserved_absent c.default.result x.0 x.1.0 x.1.1.0 x.1.1.1,
+      order_absent c.default-2.result o.0 o.1,
     )

@@ -1,15 +1,18 @@
 -- `reader::token_in` meets its contract. Assumes nothing.
-use mathlib.Core.Bool.{false, true}
-use mathlib.Core.Path.{◌≡◌}
+use native.Mathlib.Omega.{arith}
+use borrow.Author.Tests.{eqb-true}
+use Rattle.catalogue.specs.Catalogue.{fits}
 use Rattle.record.specs.Values.{token_in}
+use Rattle.record.proofs.Defaults.{token_absent}
 use Rattle.reader.proofs.token_in.Goals as goal
 
-pub returns-then-not-present : goal.returns-then-not-present
-returns-then-not-present c = let h : c.args.present ≡ false = c.if-not-present.true in rw h c.absent.ensures
+pub array-requires : goal.array-requires
+unfolding fits
+array-requires c = (omega arith, eqb-true _ _ (rw c.in-Some.is at c.requires))
 
-pub bytes16-bytes-requires : goal.bytes16-bytes-requires
-bytes16-bytes-requires c = c.requires c.if-not-present.false
-
-pub returns : goal.returns
+pub returns-in-Some : goal.returns-in-Some
 unfolding token_in
-returns c = let h : c.args.present ≡ true = c.if-not-present.false in rw (h, c.bytes16-bytes.ensures)
+returns-in-Some c = rw (c.in-Some.is, c.array.ensures)
+
+pub returns-in-None : goal.returns-in-None
+returns-in-None c = let d = c.default.ensures in rw c.in-None.is (token_absent _ d.0 d.1)

@@ -6,4 +6,4 @@ use Rattle.record.proofs.formed_cid.Goals as goal
 
 pub returns : goal.returns
 unfolding formed_optional_cid all
-returns c = simp and-true (cc)
+returns c = simp (c.is_well_formed.ensures, and-true)

@@ -1,12 +1,8 @@
--- `record::formed_number` meets its contract, in each case. Assumes nothing.
-use Rattle.record.proofs.Tests.{at_most}
-use Rattle.record.specs.Record.{formed_optional}
+-- `record::formed_number` meets its contract: 0 stands for a number that is absent. Assumes nothing.
+use mathlib.Core.Path.{ap, ◌∙◌}
+use lib.Dec.{leb}
+use Rattle.record.proofs.Tests.{optional_below}
 use Rattle.record.proofs.formed_number.Goals as goal
 
-pub returns-in-None : goal.returns-in-None
-unfolding formed_optional
-returns-in-None c = rw c.in-None.is
-
-pub returns-in-Some : goal.returns-in-Some
-unfolding formed_optional
-returns-in-Some c = rw c.in-Some.is (at_most c.in-Some.x)
+pub returns : goal.returns
+returns c = ap (λ x. leb x 4611686018427387903) c.unwrap_or.ensures ∙ optional_below c.args.o

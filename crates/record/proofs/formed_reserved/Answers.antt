@@ -1,6 +1,9 @@
 -- `record::formed_reserved` meets its contract. Assumes nothing.
+use borrow.Author.Rules.{rules}
+use mathlib.Core.Path.{◌≡◌}
+use lib.ListN.{length}
 use Rattle.refusal.specs.Outcome.{all}
-use Rattle.words.proofs.Laws.{and-true, whole_array}
+use Rattle.words.proofs.Laws.{and-true, and_assoc}
 use Rattle.record.specs.Record.{formed_reserved}
 use Rattle.record.proofs.Tests.{at_most}
 use Rattle.record.proofs.formed_reserved.Goals as goal
@@ -8,4 +11,5 @@ use Rattle.record.proofs.formed_reserved.Goals as goal
 pub returns : goal.returns
 unfolding formed_reserved all
 returns c =
-    simp (c.and-2.ensures, c.and.ensures, c.and-rest.ensures, c.reserved_head.ensures, c.zero16_from.ensures, whole_array 16 c.args.payload.now c.requires, c.requires, and-true, ← at_most)
+    let long : length c.args.x.now.payload ≡ 16 = search rules in
+    simp (c.reserved_head.ensures, c.zero_from.ensures, c.from-n.ensures, long, and-true, and_assoc, ← at_most)

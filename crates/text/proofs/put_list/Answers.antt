@@ -1,5 +1,7 @@
--- `put_list` meets its contract. The invariant: the words before word `k` are stored. Assumes nothing.
-use mathlib.Core.Path.{◌≡◌, refl, sym, ap, ◌∙◌}
+-- `put_list` meets its contract. Assumes nothing.
+use mathlib.Core.Path.{◌≡◌, sym, ap, ◌∙◌}
+use Rattle.std.specs.Int.Bits.{bit_and}
+use Rattle.std.proofs.lemmas.Nat.{and_mask}
 use native.Mathlib.Omega.{arith}
 use borrow.Author.Tests.{lt-leb}
 use Rattle.text.specs.Text.{decimal}
@@ -8,31 +10,31 @@ use Rattle.text.proofs.Lists.{listed_none, listed_more, cut, whole}
 use Rattle.text.proofs.put_list.Goals as goal
 
 pub loop-k-init : goal.loop-k-init
-loop-k-init c = (omega arith, refl, listed_none _ _ _ _ _ _)
+loop-k-init c = listed_none _ _ _ _ _ _
 
 pub returns-in_default : goal.returns-in_default
 returns-in_default c =
     let l = c.loop-k in
     let d = sym (ap decimal c.word.ensures) ∙ sym c.parse_decimal.ensures ∙ c.in_default.is in
-    cut _ _ _ _ _ _ l.k l.out l.invariant.2 l.invariant.0 (omega arith) (rw d)
+    cut _ _ _ _ _ _ l.k l.out l.invariant (omega arith) (omega arith) (rw d)
 
 pub returns-then-x-gt255 : goal.returns-then-x-gt255
 returns-then-x-gt255 c =
     let l = c.loop-k in
-    let d = sym (ap decimal c.word.ensures) ∙ sym c.parse_decimal.ensures ∙ c.in-Number.is in
-    cut _ _ _ _ _ _ l.k l.out l.invariant.2 l.invariant.0 (omega arith) (rw (d, lt-leb _ 255 c.if-x-gt255.true))
+    let d = sym (ap decimal c.word.ensures) ∙ sym c.parse_decimal.ensures ∙ c.in-Some.is in
+    cut _ _ _ _ _ _ l.k l.out l.invariant (omega arith) (omega arith) (rw (d, lt-leb _ 255 c.if-x-gt255.true))
 
 pub loop-k-preserved : goal.loop-k-preserved
 loop-k-preserved c =
     let l = c.loop-k in
-    let x = c.in-Number.x in
-    let d = sym (ap decimal c.word.ensures) ∙ sym c.parse_decimal.ensures ∙ c.in-Number.is in
-    let m = listed_more _ _ _ _ _ _ l.k l.out l.invariant.2 l.invariant.0 (omega arith) x d c.if-x-gt255.false in
-    let b : c.low.result ≡ x = c.low.ensures ∙ omega arith in
+    let x = c.in-Some.x in
+    let d = sym (ap decimal c.word.ensures) ∙ sym c.parse_decimal.ensures ∙ c.in-Some.is in
+    let m = listed_more _ _ _ _ _ _ l.k l.out l.invariant (omega arith) (omega arith) x d c.if-x-gt255.false in
+    let b : bit_and x 255 ≡ x = and_mask x 8 ∙ omega arith in
     let e = stored_out _ _ l.out _ _ c.set.ensures in
-    (omega arith, e.1 ∙ l.invariant.1, rw (e.0, b) m)
+    rw (e.0, b) m
 
 pub returns : goal.returns
 returns c =
     let l = c.loop-k in
-    rw c.word-more.ensures (whole _ _ _ _ _ _ l.k l.out l.invariant.2 l.invariant.0 (omega arith))
+    rw (c.is_empty.ensures, c.word-2.ensures) (whole _ _ _ _ _ _ l.k l.out l.invariant (omega arith) (omega arith))

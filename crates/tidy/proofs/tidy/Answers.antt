@@ -2,7 +2,8 @@
 use mathlib.Core.Path.{◌∙◌, sym}
 use Rattle.refusal.proofs.Laws.{raised}
 use Rattle.record.specs.Values.{Bytes}
-use Rattle.tidy.proofs.Pieces.{few, within, tidied_pieces, not_read}
+use Rattle.index.proofs.Sound.{sound}
+use Rattle.tidy.proofs.Pieces.{few, tidied_pieces, not_read}
 use Rattle.tidy.proofs.tidy.Goals as goal
 
 pub returns-in_err-entries : goal.returns-in_err-entries
@@ -12,11 +13,11 @@ pub put_tidied-requires : goal.put_tidied-requires
 put_tidied-requires c =
     let a = c.args in
     let hb : Bytes a.src.now = λ i. (c.type_inv.src i).fits in
-    let e = sym c.in_ok-entries.ensures in
-    (within a.side a.src.now _ _ _ hb e, few a.side a.src.now _ _ _ hb e)
+    let e = c.in_ok-entries.ensures in
+    (sound a.side a.src.now _ e, few a.side a.src.now _ hb (sym e))
 
 pub returns : goal.returns
 returns c =
     let a = c.args in
     let hb : Bytes a.src.now = λ i. (c.type_inv.src i).fits in
-    c.put_tidied.ensures ∙ tidied_pieces a.side a.src.now _ _ _ hb (sym c.in_ok-entries.ensures) a.out.now
+    c.put_tidied.ensures ∙ tidied_pieces a.side a.src.now _ hb (sym c.in_ok-entries.ensures) a.out.now

@@ -12,34 +12,27 @@ use Rattle.order.specs.Order.{permutation, catalogue_order}
 use Rattle.order.proofs.Orders.{in_catalogue}
 use Rattle.writer.proofs.Extension.{longest}
 use Rattle.writer.specs.Writing.{max_extension, order_of}
-use Rattle.writer.proofs.Places.{formed, in_catalogue_order}
+use Rattle.writer.proofs.Places.{in_catalogue_order}
 use Rattle.writer.proofs.Answers.{due, ready, write_stored}
 use Rattle.writer.proofs.write.Goals as goal
 
-pub is_order-requires : goal.is_order-requires
-is_order-requires c =
-    let well : well_formed c.args.r ≡ true = grind arith in
-    (formed _ (well)).order
+pub catalogue-n-requires : goal.catalogue-n-requires
+catalogue-n-requires c =
+    let w : well_formed c.args.r ≡ true = grind arith in
+    (w, record { noted = refl; within = rw (in_catalogue_order c.args.r) (omega (arith, longest _ catalogue_order w in_catalogue)); long = omega arith; clear = zeros_replicate 346 })
 
-pub put_catalogue-n-requires : goal.put_catalogue-n-requires
-put_catalogue-n-requires c =
-    let well : well_formed c.args.r ≡ true = grind arith in
-    let w = well in (w, record { noted = refl; within = rw (in_catalogue_order c.args.r) (omega (arith, longest _ catalogue_order w in_catalogue)); long = omega arith; clear = zeros_replicate 346 })
-
-pub put_laid-requires : goal.put_laid-requires
+pub put-requires : goal.put-requires
 unfolding order_of
-put_laid-requires c =
+put-requires c =
     let well : well_formed c.args.r ≡ true = grind arith in
     let orderly : permutation (order_of c.args.r.write_order) ≡ true = grind arith in
-    ready c.args.r (well) _ (replicate (max_extension + 32) 0) _ _ (omega arith) (orderly) c.put_catalogue-n.ensures (omega arith)
+    ready c.args.r well _ (replicate (max_extension + 32) 0) _ _ (omega arith) orderly c.catalogue-n.ensures (omega arith)
 
 pub returns : goal.returns
 unfolding order_of
 returns c =
-    let well : well_formed c.args.r ≡ true = grind arith in
-    let orderly : permutation (order_of c.args.r.write_order) ≡ true = grind arith in
     let a = c.args in
-    let w = well in
-    let p = orderly in
-    let d = due a.r w _ (replicate (max_extension + 32) 0) _ _ (omega arith) p c.put_catalogue-n.ensures (omega arith) in
-    c.put_laid.ensures ∙ ap (λ (bs : List ℕ). store bs a.out.now) d ∙ write_stored a.r a.out.now w p
+    let w : well_formed c.args.r ≡ true = grind arith in
+    let p : permutation (order_of c.args.r.write_order) ≡ true = grind arith in
+    let d = due a.r w _ (replicate (max_extension + 32) 0) _ _ (omega arith) p c.catalogue-n.ensures (omega arith) in
+    c.put.ensures ∙ ap (λ (bs : List ℕ). store bs a.out.now) d ∙ write_stored a.r a.out.now w p

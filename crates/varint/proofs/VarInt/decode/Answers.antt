@@ -5,14 +5,16 @@ use lib.ListN.{length, get_or}
 use mathlib.Core.Path.{◌≡◌, refl, ap, sym, ◌∙◌}
 use Rattle.varint.proofs.Bytes.{read_none, read_whole}
 use native.Mathlib.Omega.{arith}
+use borrow.Author.Rules.{rules}
+use borrow.Author.Tests.{eqb-true}
 use Rattle.varint.proofs.VarInt.decode.Goals as goal
 
-pub returns-then-src-eq0 : goal.returns-then-src-eq0
-returns-then-src-eq0 c = read_none _ c.if-src-eq0.true
+pub returns-then-is_empty : goal.returns-then-is_empty
+returns-then-is_empty c = read_none _ (eqb-true _ _ (sym c.if-is_empty.ensures))
 
 pub returns-then-tag-eq0 : goal.returns-then-tag-eq0
 returns-then-tag-eq0 c =
     let s = c.args.src.now in
-    let h : 0 < length s = omega arith in
+    let h : 0 < length s = search rules in
     let e : 0 ≡ get_or s 0 0 / 64 = omega arith in
-    ap (λ v. accepted (v, 1)) (c.wide.ensures.0 ∙ omega arith) ∙ sym (read_whole s 0 h e h 0 refl)
+    ap (λ v. accepted (v, 1)) (c.from.ensures ∙ omega arith) ∙ sym (read_whole s 0 h e h 0 refl)

@@ -1,4 +1,4 @@
--- `varint::VarInt::from_u64` meets its contract: the test picks the case. Assumes nothing.
+-- `VarInt`'s `try_from` meets its contract: the test picks the case. Assumes nothing.
 use Prim.Native.Nat.{◌<◌, ◌^◌}
 use native.Mathlib.Omega.{arith}
 use Rattle.varint.specs.Number.{convert_number}

@@ -1,0 +1,17 @@
+-- `writer::Draft::number` meets its contract. Assumes nothing.
+use borrow.Author.Rules.{rules}
+use native.Mathlib.Omega.{arith}
+use mathlib.Core.Path.{◌≡◌}
+use lib.ListN.{length}
+use Rattle.writer.proofs.Parts.{number_due, added_fits, added}
+use Rattle.writer.proofs.Draft.number.Goals as goal
+
+pub overflow_add-end : goal.overflow_add-end
+overflow_add-end c =
+    let long : length c.args.self.now.parts ≡ 346 = search rules in
+    added_fits c.requires 346 long _ _ _ (number_due c.requires 346 long _ _ _ _ _ c.lay_number.ensures) (omega arith)
+
+pub returns : goal.returns
+returns c =
+    let long : length c.args.self.now.parts ≡ 346 = search rules in
+    added c.requires 346 long _ _ _ (number_due c.requires 346 long _ _ _ _ _ c.lay_number.ensures) _

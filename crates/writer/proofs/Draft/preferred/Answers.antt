@@ -1,0 +1,18 @@
+-- `writer::Draft::preferred` meets its contract. Assumes nothing.
+use borrow.Author.Rules.{rules}
+use native.Mathlib.Omega.{arith}
+use mathlib.Core.Path.{◌≡◌}
+use lib.ListN.{length}
+use Rattle.address.proofs.Address.{address_due}
+use Rattle.writer.proofs.Parts.{added_fits, added}
+use Rattle.writer.proofs.Draft.preferred.Goals as goal
+
+pub overflow_add-end : goal.overflow_add-end
+overflow_add-end c =
+    let long : length c.args.self.now.parts ≡ 346 = search rules in
+    added_fits c.requires.1 346 long _ _ _ (address_due c.args.a.now _ _ _ _ c.requires.0 c.put_address.ensures) (omega arith)
+
+pub returns : goal.returns
+returns c =
+    let long : length c.args.self.now.parts ≡ 346 = search rules in
+    added c.requires.1 346 long _ _ _ (address_due c.args.a.now _ _ _ _ c.requires.0 c.put_address.ensures) _

@@ -1,0 +1,99 @@
+// Why a command has no answer: how it is not called as it should be, or why there is no input.
+use form::Slip;
+use std::alloc::{AllocError, AllocFailed};
+use std::fmt;
+use std::fmt::Display;
+use std::io::Error;
+use text::HexError;
+
+#[derive(Drop)]
+pub enum Complaint<'a> {
+    // words that no command takes
+    NoCommand,
+    Surplus,
+    NotDecimal,
+    NoRemembered,
+    NoSide,
+    // the input
+    TooLong,
+    NoDigit(usize),
+    OddDigits,
+    NoEntry(usize),
+    ManyEntries,
+    NotUtf8(&'a [u8]),
+    // what could not be read, and why
+    Unread(&'a str, Error),
+    Slip(Slip),
+    NoMemory,
+}
+
+impl<'a> Complaint<'a> {
+    // Whether it is about words that no command takes.
+    pub fn is_of_usage(&self) -> bool {
+        matches!(
+            self,
+            Complaint::NoCommand
+                | Complaint::Surplus
+                | Complaint::NotDecimal
+                | Complaint::NoRemembered
+        )
+    }
+}
+
+impl<'a> Display for Complaint<'a> {
+    fn fmt<W: fmt::Write>(&self, f: &mut fmt::Formatter<W>) -> fmt::Result {
+        match self {
+            Complaint::NoCommand => write!(f, "no such command"),
+            Complaint::Surplus => write!(f, "a word too many"),
+            Complaint::NotDecimal => write!(f, "not a decimal number"),
+            Complaint::NoRemembered => write!(f, "no file of the remembered record"),
+            Complaint::NoSide => write!(f, "the side that reads is client or server (try --help)"),
+            Complaint::TooLong => write!(
+                f,
+                "the input is over the limit of 65536 bytes, or of 262144 characters of hexadecimal"
+            ),
+            Complaint::NoDigit(at) => write!(
+                f,
+                "no hexadecimal digit at character {at} (counted from 0)"
+            ),
+            Complaint::OddDigits => write!(f, "an odd number of hexadecimal digits"),
+            Complaint::NoEntry(k) => write!(
+                f,
+                "no number of 0 to 255 at position {k} (counted from 0)"
+            ),
+            Complaint::ManyEntries => write!(f, "the order is over the limit of 255 entries"),
+            Complaint::NotUtf8(_) => write!(f, "the name is not UTF-8"),
+            Complaint::Unread(what, e) => write!(f, "{what}: {e}"),
+            Complaint::Slip(slip) => write!(f, "{slip}"),
+            Complaint::NoMemory => write!(f, "no memory is left"),
+        }
+    }
+}
+
+impl<'a> From<AllocError> for Complaint<'a> {
+    fn from(_e: AllocError) -> Complaint<'a> {
+        Complaint::NoMemory
+    }
+}
+
+impl<'a, T: Drop> From<AllocFailed<T>> for Complaint<'a> {
+    fn from(_e: AllocFailed<T>) -> Complaint<'a> {
+        Complaint::NoMemory
+    }
+}
+
+impl<'a> From<HexError> for Complaint<'a> {
+    fn from(e: HexError) -> Complaint<'a> {
+        match e {
+            HexError::Strange(at) => Complaint::NoDigit(at),
+            HexError::Odd => Complaint::OddDigits,
+            HexError::Long => Complaint::TooLong,
+        }
+    }
+}
+
+impl<'a> From<Slip> for Complaint<'a> {
+    fn from(slip: Slip) -> Complaint<'a> {
+        Complaint::Slip(slip)
+    }
+}
