@@ -1,7 +1,8 @@
 // Says what a refusal means and what is at fault: of an extension which parameter, at which byte it starts, and why; of an order which entry.
 #![tactic(auto)]
 
-ghost use Rattle.std.specs.Prelude.{◌<◌, ◌≤◌, length, IfOk};
+ghost use Rattle.std.specs.Prelude.{◌<◌, ◌≤◌, ◌-◌, length, IfOk};
+ghost use Rattle.std.specs.Iterator.{at_most};
 
 use catalogue::{
     ACK_DELAY_EXPONENT, ACTIVE_CONNECTION_ID_LIMIT, DISABLE_ACTIVE_MIGRATION, GREASE_QUIC_BIT,
@@ -15,11 +16,11 @@ use refusal::Refusal;
 use rules::Side;
 use text::out::Out;
 
-// The parameter at fault: where it starts, its identifier, and what is wrong.
+// The parameter at fault: where it starts, its identifier if it can be read, and what is wrong.
 #[derive(Clone, Copy)]
 struct Culprit {
     at: usize,
-    id: u64,
+    id: Option<u64>,
     fault: Fault,
 }
 
@@ -41,49 +42,87 @@ fn front_at(src: &[u8], at: usize) -> Result<Parameter, Fault>
     front::parameter_at(src, at)
 }
 
-// Whether its value fits its place, which may be met already.
-fn receive(met: u32, place: usize, f: Parameter, src: &[u8]) -> Result<(), Fault>
-    requires { (f.start ≤ f.end) × (f.end ≤ length src.now) }
-{
-    let is_met = is_marked(met, place);
-    value::receive(is_met, place, f.start, f.end - f.start, &src[f.start..])?;
+// A parameter: its identifier, its bytes, and those of its value.
+#[derive(Clone, Copy)]
+struct Piece<'a> {
+    id: u64,
+    whole: &'a [u8],
+    value: &'a [u8],
+}
+
+// The parameters of the bytes from a position on, each with where it starts; the last is the first that cannot be read.
+#[derive(Drop)]
+struct Pieces<'a> {
+    src: &'a [u8],
+    at: usize,
+}
+
+impl<'a> Iterator for Pieces<'a> {
+    type Item = (usize, Result<Piece<'a>, Fault>);
+
+    ghost remaining = { λ s. at_most (length s.src.now - s.at) };
+
+    fn next(&mut self) -> Option<(usize, Result<Piece<'a>, Fault>)> {
+        let src = self.src;
+        let at = self.at;
+        if src.len() <= at {
+            return None;
+        }
+        match front_at(src, at) {
+            Ok(f) => {
+                self.at = f.end;
+                let piece = Piece {
+                    id: f.id,
+                    whole: &src[at..f.end],
+                    value: &src[f.start..f.end],
+                };
+                Some((at, Ok(piece)))
+            }
+            Err(fault) => {
+                self.at = src.len();
+                Some((at, Err(fault)))
+            }
+        }
+    }
+}
+
+// Whether a value fits its place, which may be met already; where it starts is not asked for.
+fn receive(met: u32, place: usize, value: &[u8]) -> Result<(), Fault> {
+    value::receive(is_marked(met, place), place, 0, value.len(), value)?;
     Ok(())
 }
 
 // The culprit of an extension that is refused: the first fault from the front, as reading finds it. If there is none, a value rule is broken:
-// by the first parameter that breaks one by itself, or else by min_ack_delay, which is held to max_ack_delay. Not a `for`: the next parameter starts
-// where this one ends.
-fn locate(side: Side, src: &[u8]) -> Culprit {
+// by the first parameter that breaks one by itself, or else by min_ack_delay, which is held to max_ack_delay.
+fn locate(side: Side, src: &[u8]) -> Option<Culprit> {
     let mut met: u32 = 0;
     let mut breaker: Option<Culprit> = None;
     let mut delay: Option<Culprit> = None;
-    let mut at: usize = 0;
-    while at < src.len() {
-        let f = match front_at(src, at) {
-            Ok(f) => f,
-            Err(fault) => return Culprit { at, id: 0, fault },
+    for (at, read) in (Pieces { src, at: 0 }) {
+        let piece = match read {
+            Ok(piece) => piece,
+            Err(fault) => return Some(Culprit {
+                at,
+                id: None,
+                fault,
+            }),
         };
-        let id = f.id;
-        let place = catalogue::place_of(id);
+        let id = Some(piece.id);
+        let place = catalogue::place_of(piece.id);
         if place < PLACES {
-            if let Err(fault) = receive(met, place, f, src) {
-                return Culprit { at, id, fault };
+            if let Err(fault) = receive(met, place, piece.value) {
+                return Some(Culprit { at, id, fault });
             }
             met = with_mark(met, place);
             let fault = Fault::Illegal;
             if place == MIN_ACK_DELAY {
                 delay = Some(Culprit { at, id, fault });
-            } else if breaker.is_none() && is_broken(side, &src[at..f.end]) {
+            } else if breaker.is_none() && is_broken(side, piece.whole) {
                 breaker = Some(Culprit { at, id, fault });
             }
         }
-        at = f.end;
     }
-    breaker.or(delay).unwrap_or(Culprit {
-        at: 0,
-        id: 0,
-        fault: Fault::Illegal,
-    })
+    breaker.or(delay)
 }
 
 // The rule that the value of a parameter breaks.
@@ -113,9 +152,11 @@ fn misfit(place: usize) -> &'static str {
     }
 }
 
-// Which parameter it is, and what is wrong with it.
+// Which parameter it is, and what is wrong with it; nothing of one that cannot be read.
 fn note_cause(out: &mut Out, side: Side, c: Culprit) {
-    let id = c.id;
+    let Some(id) = c.id else {
+        return;
+    };
     let place = catalogue::place_of(id);
     let name = NAMES.get(place).copied().unwrap_or("");
     let cause = match c.fault {
@@ -128,9 +169,11 @@ fn note_cause(out: &mut Out, side: Side, c: Culprit) {
 
 // A refusal of reading, and its cause.
 pub fn note_reading(out: &mut Out, side: Side, r: Refusal, src: &[u8]) {
-    let c = locate(side, src);
-    let at = c.at;
     note_refusal(out, r);
+    let Some(c) = locate(side, src) else {
+        return;
+    };
+    let at = c.at;
     if let Fault::Cut = c.fault {
         out.note(format_args!("at byte {at}: the input ends within this parameter\n"));
         return;
@@ -141,10 +184,10 @@ pub fn note_reading(out: &mut Out, side: Side, r: Refusal, src: &[u8]) {
 
 // The cause alone, of a record's extension. If the extension is accepted, no value rule is broken: then a family that is given is all zero.
 pub fn note_culprit(out: &mut Out, side: Side, src: &[u8]) {
-    if is_broken(side, src) {
-        note_cause(out, side, locate(side, src));
-    } else {
+    if !is_broken(side, src) {
         out.note("preferred_address: a family of zeros and port 0\n");
+    } else if let Some(c) = locate(side, src) {
+        note_cause(out, side, c);
     }
 }
 

@@ -84,8 +84,7 @@ fn put_counted(digits: &[u8], out: &mut [u8], at: usize, room: usize) -> Result<
 fn put_reserved(line: &[u8], out: &mut [u8], at: usize) -> Result<(), Complaint>
     requires { at < 65536 }
 {
-    let is_number = put_number(word(line, 1, b' '), u64::MAX, out, at, 8);
-    unless(is_number, Complaint::Number)?;
+    put_number(word(line, 1, b' '), u64::MAX, out, at, 8).ok_or(Complaint::Number)?;
     put_counted(word(line, 2, b' '), out, at + 8, 16)
 }
 
@@ -95,7 +94,7 @@ fn put_port(line: &[u8], out: &mut [u8], at: usize) -> Result<(), Complaint> {
         b"port" => word(line, 3, b' '),
         port => port,
     };
-    unless(put_number(port, 65535, out, at, 2), Complaint::Address)
+    put_number(port, 65535, out, at, 2).ok_or(Complaint::Address)
 }
 
 fn is_flag(value: &[u8]) -> bool {
@@ -118,24 +117,21 @@ fn put_value(row: Row, line: &[u8], out: &mut [u8]) -> Result<(), Complaint> {
     let value = word(line, 1, b' ');
     match row.0 {
         Kind::Number(_) | Kind::OptionalNumber(_) => {
-            unless(put_number(value, u64::MAX, out, at, 8), Complaint::Number)
+            put_number(value, u64::MAX, out, at, 8).ok_or(Complaint::Number)
         }
         Kind::Flag | Kind::Address => unless(is_flag(value), Complaint::Flag),
-        Kind::Token | Kind::AddressToken => unless(put_16(value, out, at), Complaint::Token),
+        Kind::Token | Kind::AddressToken => put_16(value, out, at).ok_or(Complaint::Token),
         Kind::ConnectionId | Kind::AddressId => put_counted(value, out, at, 20),
         Kind::Reserved => put_reserved(line, out, at),
         Kind::V4 => {
-            unless(put_list(value, 0, 4, b'.', out, at), Complaint::Address)?;
+            put_list(value, 0, 4, b'.', out, at).ok_or(Complaint::Address)?;
             put_port(line, out, at + 4)
         }
         Kind::V6 => {
-            unless(put_16(value, out, at), Complaint::Address)?;
+            put_16(value, out, at).ok_or(Complaint::Address)?;
             put_port(line, out, at + 16)
         }
-        Kind::Order => unless(
-            put_list(line, 1, PLACES + 1, b' ', out, at),
-            Complaint::Order,
-        ),
+        Kind::Order => put_list(line, 1, PLACES + 1, b' ', out, at).ok_or(Complaint::Order),
     }
 }
 

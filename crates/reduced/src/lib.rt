@@ -14,7 +14,8 @@ use text::byte;
 use text::out::Out;
 use words::bytes_at;
 
-// What is remembered for 0-RTT, by place: what the definition of resumption looks at (`remembered`, `nothing_reduced`).
+// What is remembered for 0-RTT, by place: what the definition of resumption looks at (`remembered`, `nothing_reduced`). Resumption has a list of its
+// own: it is private, and of the plain numbers alone.
 const REMEMBERED: [usize; 9] = [
     INITIAL_MAX_DATA,
     INITIAL_MAX_STREAM_DATA_BIDI_LOCAL,

@@ -10,11 +10,16 @@ mod operation;
 use operation::{OPERATIONS, Operation};
 use std::io;
 use std::io::{Read, Stdin};
+use words::bytes_at;
 
-// The longest input or output of an entry.
+// The longest output of an entry.
 const MOST: usize = 512;
 
-// What stands in an output and in a number before a call.
+// The longest entry behind its head. Buffers are as long as these and no Vec: the list's bounds are known, and nothing can run out of memory.
+const LONGEST: usize = 2048;
+
+// What stands in an output and in a number before a call. No Option: the C interface stores through references, and that it leaves them alone is
+// what is tested.
 const FILL: u8 = 0xa7;
 
 const UNTOUCHED: u64 = 0xa7a7a7a7a7a7a7a7;
@@ -22,8 +27,7 @@ const UNTOUCHED: u64 = 0xa7a7a7a7a7a7a7a7;
 // The head of an entry: a call, what is due, and where each part of what follows ends.
 #[derive(Clone, Copy)]
 struct Head {
-    // the number of the operation
-    operation: usize,
+    operation: Operation,
     code: u8,
     x: usize,
     y: usize,
@@ -37,24 +41,18 @@ struct Head {
 
 // The number of eight bytes from `at` on, high byte first; 0 where there are none.
 fn eight(b: &[u8], at: usize) -> u64 {
-    let mut bytes = [0u8; 8];
-    let Some(rest) = b.get(at..) else {
-        return 0;
-    };
-    let Some(first) = rest.get(..8) else {
-        return 0;
-    };
-    bytes.copy_from_slice(first);
-    u64::from_be_bytes(bytes)
+    u64::from_be_bytes(bytes_at(b, at))
 }
 
 fn two(high: u8, low: u8) -> usize {
     usize::from(u16::from_be_bytes([high, low]))
 }
 
-fn head_of(b: &[u8; 32]) -> Head {
-    Head {
-        operation: usize::from(b[0]),
+// None if there is no such operation. No TryFrom: its error had nothing to carry.
+fn head_of(b: &[u8; 32]) -> Option<Head> {
+    let operation = *OPERATIONS.get(usize::from(b[0]))?;
+    Some(Head {
+        operation,
         code: b[1],
         x: two(b[2], b[3]),
         y: two(b[4], b[5]),
@@ -64,7 +62,7 @@ fn head_of(b: &[u8; 32]) -> Head {
         room: two(b[12], b[13]),
         number: eight(b, 16),
         number_due: eight(b, 24),
-    }
+    })
 }
 
 // A part of a slice, or all of it where there is no such part.
@@ -72,12 +70,13 @@ fn part<'a>(b: &'a [u8], from: usize, to: usize) -> &'a [u8] {
     b.get(from..to).unwrap_or(b)
 }
 
-// What a call gave: the refusal or 0; a count, a limit or a size; and the value that number_read gives.
+// What a call gave: the refusal or 0; a count, a limit or a size, 0 where none is due, and none where one is stored that is not; and the value
+// that number_read stores.
 #[derive(Clone, Copy)]
 struct Called {
     code: u8,
-    number: u64,
-    value: u64,
+    number: Option<u64>,
+    value: Option<u64>,
 }
 
 // A call that stores a number; a refused one stores none.
@@ -85,16 +84,16 @@ fn storing(code: u8, number: u64) -> Called {
     Called {
         code,
         number: stored(code == 0, number),
-        value: UNTOUCHED,
+        value: None,
     }
 }
 
-// The number that is stored if it is to be; 0 if none is to be and none is.
-fn stored(is_due: bool, number: u64) -> u64 {
+// The number that is stored, if one is due; 0 if none is and none is stored.
+fn stored(is_due: bool, number: u64) -> Option<u64> {
     if is_due {
-        return number;
+        return Some(number);
     }
-    if number == UNTOUCHED { 0 } else { u64::MAX }
+    (number == UNTOUCHED).then_some(0)
 }
 
 // A call that stores a count.
@@ -110,8 +109,8 @@ fn counting<F: FnOnce(&mut usize) -> u8>(call: F) -> Called
 fn plain(code: u8) -> Called {
     Called {
         code,
-        number: 0,
-        value: UNTOUCHED,
+        number: Some(0),
+        value: None,
     }
 }
 
@@ -121,7 +120,7 @@ fn number_read(x: &[u8]) -> Called {
     Called {
         code: c.code,
         number: c.number,
-        value,
+        value: (value != UNTOUCHED).then_some(value),
     }
 }
 
@@ -132,7 +131,7 @@ fn order_fault(x: &[u8]) -> Called {
     Called {
         code,
         number: stored(code != 0, position as u64),
-        value: UNTOUCHED,
+        value: None,
     }
 }
 
@@ -143,10 +142,10 @@ fn tidy(side: u8, x: &[u8], out: &mut [u8]) -> Called {
 fn tidy_twice(side: u8, x: &[u8], out: &mut [u8]) -> Called {
     let mut once = [0u8; MOST];
     let first = tidy(side, x, &mut once);
-    if first.code != 0 {
-        return first;
+    match first.number {
+        Some(n) if first.code == 0 => tidy(side, part(&once, 0, n as usize), out),
+        _ => first,
     }
-    tidy(side, part(&once, 0, first.number as usize), out)
 }
 
 fn issue_limit(x: &[u8]) -> Called {
@@ -155,16 +154,22 @@ fn issue_limit(x: &[u8]) -> Called {
     storing(code, limit)
 }
 
-// The settings are as many as eight bytes of `x` make.
-fn new(x: &[u8], cid: &[u8], draw: u64, payload: &[u8], order: &[u8], out: &mut [u8]) -> u8 {
+// The settings are as many as eight bytes of `x` make; none if they are more than there are.
+fn new(
+    x: &[u8],
+    cid: &[u8],
+    draw: u64,
+    payload: &[u8],
+    order: &[u8],
+    out: &mut [u8],
+) -> Option<u8> {
     let mut settings = [0u64; 12];
-    for i in 0..12 {
-        settings[i] = eight(x, 8 * i);
+    for (k, setting) in settings.iter_mut().enumerate() {
+        *setting = eight(x, 8 * k);
     }
-    let Some(given) = settings.get(..x.len() / 8) else {
-        return 0;
-    };
-    yuthpram::yuthpram_new(given, cid, draw, payload, order, out)
+    let given = settings.get(..x.len() / 8)?;
+    let code = yuthpram::yuthpram_new(given, cid, draw, payload, order, out);
+    Some(code)
 }
 
 // What is handed to a call.
@@ -177,9 +182,9 @@ struct Input<'a> {
     w: &'a [u8],
 }
 
-fn call(operation: Operation, i: Input<'_>, out: &mut [u8]) -> Called {
+fn call(operation: Operation, i: Input<'_>, out: &mut [u8]) -> Option<Called> {
     let side = (i.number & 0xff) as u8;
-    match operation {
+    let called = match operation {
         Operation::NumberSize => counting(|n| yuthpram::yuthpram_number_size(i.number, n)),
         Operation::NumberRead => number_read(i.x),
         Operation::NumberWrite => counting(|n| yuthpram::yuthpram_number_write(i.number, out, n)),
@@ -188,7 +193,7 @@ fn call(operation: Operation, i: Input<'_>, out: &mut [u8]) -> Called {
         Operation::Default => plain(yuthpram::yuthpram_default(out)),
         Operation::Read => plain(yuthpram::yuthpram_read(side, i.x, out)),
         Operation::Write => counting(|n| yuthpram::yuthpram_write(i.x, out, n)),
-        Operation::New => plain(new(i.x, i.y, i.number, i.z, i.w, out)),
+        Operation::New => plain(new(i.x, i.y, i.number, i.z, i.w, out)?),
         Operation::Resumption => plain(yuthpram::yuthpram_validate_resumption_from(i.x, i.y)),
         Operation::IssueLimit => issue_limit(i.x),
         Operation::Check => plain(yuthpram::yuthpram_check(i.x, side)),
@@ -197,12 +202,12 @@ fn call(operation: Operation, i: Input<'_>, out: &mut [u8]) -> Called {
         Operation::CheckOrder => plain(yuthpram::yuthpram_check_order(i.x)),
         Operation::Length => counting(|n| yuthpram::yuthpram_length(i.x, n)),
         Operation::OrderFault => order_fault(i.x),
-    }
+    };
+    Some(called)
 }
 
-// The call of an entry; none where there is no such operation, or not so much room.
+// The call of an entry; none where there is not so much room, or not so many settings.
 fn answer_of(h: Head, body: &[u8], out: &mut [u8]) -> Option<Called> {
-    let operation = *OPERATIONS.get(h.operation)?;
     let room = out.get_mut(..h.room)?;
     let input = Input {
         number: h.number,
@@ -211,7 +216,7 @@ fn answer_of(h: Head, body: &[u8], out: &mut [u8]) -> Option<Called> {
         z: part(body, h.y, h.z),
         w: part(body, h.z, h.w),
     };
-    Some(call(operation, input, room))
+    call(h.operation, input, room)
 }
 
 // Whether `out` holds the bytes due, and what stood there behind them.
@@ -226,11 +231,11 @@ fn agrees(h: Head, body: &[u8]) -> bool {
         return false;
     };
     let due = part(body, h.w, h.due);
-    let numbers = c.code == h.code && c.number == h.number_due;
-    if OPERATIONS.get(h.operation) == Some(&Operation::NumberRead) && h.code == 0 {
-        return numbers && c.value == eight(due, 0) && holds(&out, b"");
+    let numbers = c.code == h.code && c.number == Some(h.number_due);
+    if h.operation == Operation::NumberRead && h.code == 0 {
+        return numbers && c.value == Some(eight(due, 0)) && holds(&out, b"");
     }
-    numbers && c.value == UNTOUCHED && holds(&out, due)
+    numbers && c.value.is_none() && holds(&out, due)
 }
 
 // How many entries of an operation there were, and how many of them differ.
@@ -238,6 +243,15 @@ fn agrees(h: Head, body: &[u8]) -> bool {
 struct Tally {
     cases: u64,
     differences: u64,
+}
+
+impl Tally {
+    fn count(&mut self, agrees: bool) {
+        self.cases = self.cases.wrapping_add(1);
+        if !agrees {
+            self.differences = self.differences.wrapping_add(1);
+        }
+    }
 }
 
 // The next bytes of the list; none where it ends before, or where they are not one of `buf`'s parts.
@@ -249,26 +263,19 @@ fn next<'a>(list: &mut Stdin, buf: &'a mut [u8], n: usize) -> Option<&'a [u8]> {
 
 // What stands behind an entry's head: whether its call agrees; none if the list ends within the entry, or the entry is too long.
 fn judged(list: &mut Stdin, h: Head) -> Option<bool> {
-    let mut body = [0u8; 2048];
+    let mut body = [0u8; LONGEST];
     next(list, &mut body, h.due)?;
     Some(agrees(h, &body))
 }
 
-fn count(tally: &mut Tally, agrees: bool) {
-    tally.cases = tally.cases.wrapping_add(1);
-    if !agrees {
-        tally.differences = tally.differences.wrapping_add(1);
-    }
-}
-
-// One entry; none where the list ends, with it or within it.
+// One entry; none where the list ends, with it or within it, or has no such entry.
 fn entry(list: &mut Stdin, tallies: &mut [Tally; 17]) -> Option<()> {
     let mut head = [0u8; 32];
     next(list, &mut head, 32)?;
-    let h = head_of(&head);
+    let h = head_of(&head)?;
     let agreed = judged(list, h);
-    if let Some(tally) = tallies.get_mut(h.operation) {
-        count(tally, agreed == Some(true));
+    if let Some(tally) = tallies.get_mut(h.operation as usize) {
+        tally.count(agreed == Some(true));
     }
     agreed.map(|_| ())
 }

@@ -22,7 +22,7 @@ pub enum Operation {
     OrderFault,
 }
 
-// All of them, each at its number.
+// All of them, each at its number: an array and no TryFrom, since the tallies are printed in its order.
 pub const OPERATIONS: [Operation; 17] = [
     Operation::NumberSize,
     Operation::NumberRead,

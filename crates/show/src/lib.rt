@@ -5,77 +5,97 @@ pub mod rows;
 
 use catalogue::{DEFAULTS, PLACES};
 use rows::{ADDRESS_FLAG, Kind, ROWS, Row, Unit, name_of};
+use std::fmt;
+use std::fmt::Display;
 use text::byte;
 use text::out::{HexBytes, Out};
-
-// The number of `n` bytes, high byte first.
-fn number_at(image: &[u8], at: usize, n: usize) -> u64 {
-    (0..n).fold(0, |x, i| x << 8 | u64::from(byte(image, at, i)))
-}
+use words::bytes_at;
 
 fn is_set(image: &[u8], at: usize) -> bool {
     byte(image, at, 0) == 1
 }
 
 // The `n` bytes at a place, as far as they are there.
-fn bytes_at<'a>(image: &'a [u8], at: usize, n: usize) -> &'a [u8] {
+fn part<'a>(image: &'a [u8], at: usize, n: usize) -> &'a [u8] {
     let rest = image.get(at..).unwrap_or(&[]);
     rest.get(..n).unwrap_or(rest)
 }
 
 // An ID, behind its length.
-fn say_id(out: &mut Out, counted: &[u8]) {
-    match counted.split_first() {
-        None | Some((0, _)) => out.say("(empty)"),
-        Some((n, rest)) => out.say(HexBytes(bytes_at(rest, 0, *n as usize))),
+#[derive(Clone, Copy)]
+struct ConnectionId<'a>(&'a [u8]);
+
+impl<'a> Display for ConnectionId<'a> {
+    fn fmt<W: fmt::Write>(&self, f: &mut fmt::Formatter<W>) -> fmt::Result {
+        match self.0.split_first() {
+            None | Some((0, _)) => write!(f, "(empty)"),
+            Some((n, rest)) => {
+                let digits = HexBytes(part(rest, 0, *n as usize));
+                write!(f, "{digits}")
+            }
+        }
     }
 }
 
-fn say_v4(out: &mut Out, ip: &[u8]) {
-    for (i, b) in ip.iter().enumerate() {
-        let dot = if i == 0 { "" } else { "." };
-        out.say(format_args!("{dot}{b}"));
+// An IPv4 address.
+#[derive(Clone, Copy)]
+struct V4<'a>(&'a [u8]);
+
+impl<'a> Display for V4<'a> {
+    fn fmt<W: fmt::Write>(&self, f: &mut fmt::Formatter<W>) -> fmt::Result {
+        for (i, b) in self.0.iter().enumerate() {
+            let dot = if i == 0 { "" } else { "." };
+            write!(f, "{dot}{b}")?;
+        }
+        Ok(())
     }
 }
 
-fn say_v6(out: &mut Out, ip: &[u8]) {
-    for (i, pair) in ip.chunks(2).enumerate() {
-        let colon = if i == 0 { "" } else { ":" };
-        let digits = HexBytes(pair);
-        out.say(format_args!("{colon}{digits}"));
+// An IPv6 address.
+#[derive(Clone, Copy)]
+struct V6<'a>(&'a [u8]);
+
+impl<'a> Display for V6<'a> {
+    fn fmt<W: fmt::Write>(&self, f: &mut fmt::Formatter<W>) -> fmt::Result {
+        for (i, pair) in self.0.chunks(2).enumerate() {
+            let colon = if i == 0 { "" } else { ":" };
+            let digits = HexBytes(pair);
+            write!(f, "{colon}{digits}")?;
+        }
+        Ok(())
     }
 }
 
-fn say_port(out: &mut Out, image: &[u8], at: usize) {
-    let port = number_at(image, at, 2);
-    out.say(format_args!(" port {port}"));
+fn port_at(image: &[u8], at: usize) -> u16 {
+    u16::from_be_bytes(bytes_at(image, at))
 }
 
 // A number and its unit, and whether it is the default of its place.
 fn say_number(out: &mut Out, i: usize, unit: Unit, value: u64) {
-    out.say(format_args!("{value}{unit}"));
-    if DEFAULTS.get(i).is_some_and(|d| *d == value) {
-        out.say(" (default)");
-    }
+    let is_default = DEFAULTS.get(i) == Some(&value);
+    let note = if is_default { " (default)" } else { "" };
+    out.say(format_args!("{value}{unit}{note}"));
 }
 
 fn say_present(out: &mut Out, i: usize, row: Row, image: &[u8]) {
     let at = row.value_at();
     match row.0 {
         Kind::Number(unit) | Kind::OptionalNumber(unit) => {
-            say_number(out, i, unit, number_at(image, at, 8));
+            say_number(out, i, unit, u64::from_be_bytes(bytes_at(image, at)));
         }
         Kind::Flag => out.say("set"),
         Kind::Address => out.say("present"),
-        Kind::Token | Kind::AddressToken => out.say(HexBytes(bytes_at(image, at, 16))),
-        Kind::ConnectionId | Kind::AddressId => say_id(out, bytes_at(image, at, 21)),
+        Kind::Token | Kind::AddressToken => out.say(HexBytes(part(image, at, 16))),
+        Kind::ConnectionId | Kind::AddressId => out.say(ConnectionId(part(image, at, 21))),
         Kind::V4 => {
-            say_v4(out, bytes_at(image, at, 4));
-            say_port(out, image, at + 4);
+            let ip = V4(part(image, at, 4));
+            let port = port_at(image, at + 4);
+            out.say(format_args!("{ip} port {port}"));
         }
         Kind::V6 => {
-            say_v6(out, bytes_at(image, at, 16));
-            say_port(out, image, at + 16);
+            let ip = V6(part(image, at, 16));
+            let port = port_at(image, at + 16);
+            out.say(format_args!("{ip} port {port}"));
         }
         Kind::Reserved | Kind::Order => {}
     }

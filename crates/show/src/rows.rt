@@ -109,7 +109,8 @@ pub const ROWS: [Row; 26] = [
     Row(Kind::Order, 282),
 ];
 
-// The names of those behind the places.
+// The names of those behind the places. A row holds no name of its own: a constant cannot take `NAMES[0]`, and the catalogue's names would stand here
+// again.
 const PART_NAMES: [&str; 5] = [
     "preferred_address_v4",
     "preferred_address_v6",

@@ -3,7 +3,7 @@
 --     split             the first word, and what stands behind it
 --     Listed            what is so behind the words before word k; and what follows from it:
 --       listed_none, listed_more    at the start, and one word later
---       cut, whole      what the list is
+--       cut, whole, ended    what the list is
 use Prim.Native.Nat.{ℕ, suc, ◌+◌, ◌-◌, ◌≤◌, ◌<◌}
 use mathlib.Core.Path.{◌≡◌, refl, ap, ◌∙◌}
 use mathlib.Core.List.{List, [], ◌∷◌, ◌++◌}
@@ -115,3 +115,7 @@ module _ (s first : List ℕ) (from to sep at k : ℕ) (out : List ℕ) (m : Lis
       let l : drop (k - from) (byte_words sep s (to - from) from) ≡ [] = rw e at m.left in
       let z : length (byte_words sep s (to - from) from) ≤ k - from = omega (arith, length-drop (k - from) (byte_words sep s (to - from) from), ap length l) in
       rw (eq-eqb (length (byte_words sep s (to - from) from)) (to - from) (omega (arith, m.low, m.count)), ← take_all (k - from) (byte_words sep s (to - from) from) z, ← m.stores)
+
+  -- the same, of what was asked of word `to`
+  pub ended : (b : Bool) → b ≡ eqb (length (word_at sep to s)) 0 → to ≤ k → (b, out) ≡ list_stored s from to sep at first
+  ended b e h = rw e (whole h)

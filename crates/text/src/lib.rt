@@ -1,7 +1,7 @@
 // Text: words, hexadecimal and decimal numbers; single bytes of a buffer; and, in `out`, printing.
 #![tactic(auto)]
 
-ghost use Rattle.std.specs.Prelude.{◌≡◌, ◌+◌, ◌-◌, ◌*◌, ◌≤◌, ◌^◌, length, get_or, drop, leb, not, position};
+ghost use Rattle.std.specs.Prelude.{◌≡◌, ◌+◌, ◌-◌, ◌*◌, ◌≤◌, ◌^◌, length, get_or, drop, leb, not, position, is_some};
 ghost use Rattle.std.proofs.lemmas.List.Edits.{sets};
 ghost use Rattle.refusal.specs.Outcome.{pick};
 ghost use Rattle.words.specs.Words.{bytes_of};
@@ -54,7 +54,7 @@ fn is_gap(b: u8, sep: u8) -> bool
     }
 }
 
-// Where the first word of the text begins.
+// Where the first word of the text begins. It and the next are functions of their own: in `split_word` the proof of their chains didn't close.
 fn find_word(text: &[u8], sep: u8) -> Option<usize>
     ensures { result ≡ position (λ b. not (is_gap sep b)) text.now }
 {
@@ -112,7 +112,7 @@ fn character_of(b: u8) -> Character
     }
 }
 
-// Stores the digit behind the `digits` before it; tells whether there is room.
+// Stores the digit behind the `digits` before it; tells whether there is room, as `set` does.
 #[tactic(auto, unfolding(crate::specs::Text::digit_stored))]
 fn put_digit(out: &mut [u8], at: usize, room: usize, digits: usize, d: u8) -> bool
     ensures { (result, out.new) ≡ digit_stored at room digits d out.old }
@@ -178,7 +178,7 @@ pub fn parse_decimal(text: &[u8]) -> Option<u64>
     Some(value)
 }
 
-// Stores a number in `n` bytes, high byte first.
+// Stores a number in `n` bytes, high byte first. Byte by byte: `to_be_bytes` gives eight, and `n` may be more, which are zeros then.
 fn put_bytes(out: &mut [u8], at: usize, n: usize, x: u64)
     ensures { out.new ≡ sets out.old at (bytes_of n x) }
 {
@@ -189,41 +189,52 @@ fn put_bytes(out: &mut [u8], at: usize, n: usize, x: u64)
     }
 }
 
-// A decimal number of at most `most`, in `n` bytes; tells whether it is one. A bool, as of the two below: an Option or a Result had nothing to carry.
-pub fn put_number(digits: &[u8], most: u64, out: &mut [u8], at: usize, n: usize) -> bool
-    ensures { (result, out.new) ≡ number_stored most at n out.old (decimal digits.now) }
+// A decimal number of at most `most`, in `n` bytes; none if it is none.
+pub fn put_number(digits: &[u8], most: u64, out: &mut [u8], at: usize, n: usize) -> Option<()>
+    ensures { (is_some result, out.new) ≡ number_stored most at n out.old (decimal digits.now) }
 {
     match parse_decimal(digits) {
         Some(x) if x <= most => {
             put_bytes(out, at, n, x);
-            true
+            Some(())
         }
-        _ => false,
+        _ => None,
     }
 }
 
-// The words `from` to `to`, decimal numbers below 256, a byte for each; tells whether they are there and no word behind them.
-pub fn put_list(text: &[u8], from: usize, to: usize, sep: u8, out: &mut [u8], at: usize) -> bool
-    ensures { (result, out.new) ≡ list_stored text.now from to sep at out.old }
+// The words `from` to `to`, decimal numbers below 256, a byte for each; none if they are not there, or a word behind them is.
+pub fn put_list(
+    text: &[u8],
+    from: usize,
+    to: usize,
+    sep: u8,
+    out: &mut [u8],
+    at: usize,
+) -> Option<()>
+    ensures { (is_some result, out.new) ≡ list_stored text.now from to sep at out.old }
 {
     for k in from..to {
         let Some(x) = parse_decimal(word(text, k, sep)) else {
-            return false;
+            return None;
         };
         if 255 < x {
-            return false;
+            return None;
         }
         set(out, at, k - from, (x & 0xff) as u8);
     }
-    word(text, to, sep).is_empty()
+    if word(text, to, sep).is_empty() {
+        Some(())
+    } else {
+        None
+    }
 }
 
-// Exactly 16 bytes, in hexadecimal; tells whether they are.
-pub fn put_16(digits: &[u8], out: &mut [u8], at: usize) -> bool
-    ensures { (result, out.new) ≡ sixteen_stored (hex_stored digits.now at 16 out.old) }
+// Exactly 16 bytes, in hexadecimal; none if they are not.
+pub fn put_16(digits: &[u8], out: &mut [u8], at: usize) -> Option<()>
+    ensures { (is_some result, out.new) ≡ sixteen_stored (hex_stored digits.now at 16 out.old) }
 {
     match parse_hex(digits, out, at, 16) {
-        Ok(n) => n == 16,
-        Err(_) => false,
+        Ok(16) => Some(()),
+        _ => None,
     }
 }

@@ -40,6 +40,7 @@ impl<'a> Complaint<'a> {
     }
 }
 
+// What is wrong; of which file, `help::complain` says before it.
 impl<'a> Display for Complaint<'a> {
     fn fmt<W: fmt::Write>(&self, f: &mut fmt::Formatter<W>) -> fmt::Result {
         match self {
@@ -63,7 +64,7 @@ impl<'a> Display for Complaint<'a> {
             ),
             Complaint::ManyEntries => write!(f, "the order is over the limit of 255 entries"),
             Complaint::NotUtf8(_) => write!(f, "the name is not UTF-8"),
-            Complaint::Unread(what, e) => write!(f, "{what}: {e}"),
+            Complaint::Unread(_, e) => write!(f, "{e}"),
             Complaint::Slip(slip) => write!(f, "{slip}"),
             Complaint::NoMemory => write!(f, "no memory is left"),
         }

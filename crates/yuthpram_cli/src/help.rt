@@ -2,7 +2,6 @@
 use crate::Status;
 use crate::complaint::Complaint;
 use std::alloc::Global;
-use std::io::Error;
 use text::out::Out;
 
 const USAGE: &str =
@@ -50,8 +49,8 @@ fn words_of(text: &str) -> &str {
 }
 
 // What could not be read, and why.
-fn note_unread(out: &mut Out, alloc: Global, what: &str, e: Error) {
-    match format!(in alloc; "{e}") {
+fn note_unread(out: &mut Out, alloc: Global, what: &str, complaint: &Complaint<'_>) {
+    match format!(in alloc; "{complaint}") {
         Ok(text) => {
             let words = words_of(text.as_str());
             out.note(format_args!("{what}: {words}\n"));
@@ -60,17 +59,16 @@ fn note_unread(out: &mut Out, alloc: Global, what: &str, e: Error) {
     }
 }
 
-pub fn complain(out: &mut Out, alloc: Global, complaint: Complaint<'_>) -> Status {
-    let is_of_usage = complaint.is_of_usage();
+pub fn complain(out: &mut Out, alloc: Global, complaint: &Complaint<'_>) -> Status {
     match complaint {
-        Complaint::Unread(what, e) => note_unread(out, alloc, what, e),
+        Complaint::Unread(what, _) => note_unread(out, alloc, what, complaint),
         Complaint::NotUtf8(path) => {
             out.note_bytes(path);
-            out.note(": the name is not UTF-8\n");
+            out.note(format_args!(": {complaint}\n"));
         }
         _ => out.note(format_args!("yuthpram: {complaint}\n")),
     }
-    if is_of_usage {
+    if complaint.is_of_usage() {
         out.note(USAGE);
     }
     Status::Misused

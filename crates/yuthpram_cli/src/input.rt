@@ -1,5 +1,6 @@
 // The words of the command line, and a command's input.
 use crate::complaint::Complaint;
+use image::RECORD_SIZE;
 use rules::Side;
 use std::alloc::{AllocError, Global};
 use std::env::{Env, FillError};
@@ -19,14 +20,16 @@ const PATH_LIMIT: usize = 4096;
 
 const DIGIT_LIMIT: usize = 32;
 
-// The words of the command line, of which the first is the program's name. In place of one of over `TEXT_LIMIT` bytes stands none.
+// The words of the command line, of which the first is the program's name, and the system, which has what they name. In place of a word of over
+// `TEXT_LIMIT` bytes stands none.
 #[derive(Drop)]
-pub struct Args {
+pub struct Args<'r> {
+    rt: &'r HostRuntime,
     words: Vec<Option<Vec<u8>>>,
 }
 
-impl Args {
-    pub fn read(rt: &HostRuntime) -> Result<Args, AllocError> {
+impl<'r> Args<'r> {
+    pub fn read(rt: &'r HostRuntime) -> Result<Args<'r>, AllocError> {
         let alloc = rt.alloc();
         let mut words = Vec::new(alloc);
         let mut buffer = vec![in alloc; 0u8; TEXT_LIMIT]?;
@@ -40,7 +43,11 @@ impl Args {
                 Err(FillError::NotPresent) => break,
             }
         }
-        Ok(Args { words })
+        Ok(Args { rt, words })
+    }
+
+    pub fn alloc(&self) -> Global {
+        self.rt.alloc()
     }
 
     pub fn is_given(&self, i: usize) -> bool {
@@ -70,14 +77,18 @@ impl Args {
         parse_decimal(self.word(i, DIGIT_LIMIT))
     }
 
+    // The side that word 2 names.
+    pub fn side(&self) -> Result<Side, Complaint<'_>> {
+        match self.name(2) {
+            b"client" => Ok(Side::Client),
+            b"server" => Ok(Side::Server),
+            _ => Err(Complaint::NoSide),
+        }
+    }
+
     // The words from word `start` on, a space after each.
-    fn text_from(
-        &self,
-        alloc: Global,
-        start: usize,
-        limit: usize,
-    ) -> Result<Vec<u8>, Complaint<'_>> {
-        let mut text = Vec::new(alloc);
+    fn text_from(&self, start: usize, limit: usize) -> Result<Vec<u8>, Complaint<'_>> {
+        let mut text = Vec::new(self.alloc());
         for word in self.words.iter().skip(start) {
             let Some(word) = word else {
                 return Err(Complaint::TooLong);
@@ -90,14 +101,75 @@ impl Args {
         }
         Ok(text)
     }
-}
 
-// The side that word 2 names.
-pub fn side(args: &Args) -> Result<Side, Complaint<'_>> {
-    match args.name(2) {
-        b"client" => Ok(Side::Client),
-        b"server" => Ok(Side::Server),
-        _ => Err(Complaint::NoSide),
+    // What standard input holds.
+    fn standard_input(&self, limit: usize) -> Result<Vec<u8>, Complaint<'_>> {
+        read_all(self.alloc(), self.rt.stdin(), limit)
+    }
+
+    // What the file that word `i` names holds, or standard input.
+    fn file_at(&self, i: usize) -> Result<Vec<u8>, Complaint<'_>> {
+        if self.is_given(i) {
+            file(self.rt, self.word(i, PATH_LIMIT))
+        } else {
+            self.standard_input(LIMIT)
+        }
+    }
+
+    // The record whose text form that is; by its image.
+    pub fn record_at(&self, i: usize) -> Result<[u8; RECORD_SIZE], Complaint<'_>> {
+        let text = self.file_at(i)?;
+        let record = form::image_of(text.as_slice())?;
+        Ok(record)
+    }
+
+    // The same of the last word.
+    pub fn last_record_at(&self, i: usize) -> Result<[u8; RECORD_SIZE], Complaint<'_>> {
+        if self.is_followed(i) {
+            return Err(Complaint::Surplus);
+        }
+        self.record_at(i)
+    }
+
+    // The words from word `start` on, or what standard input holds if there are none.
+    fn text_at(&self, start: usize, limit: usize) -> Result<Vec<u8>, Complaint<'_>> {
+        if self.is_given(start) {
+            self.text_from(start, limit)
+        } else {
+            self.standard_input(limit)
+        }
+    }
+
+    // Bytes, in hexadecimal by the words from word `start` on or in standard input, or by --raw as standard input has them.
+    pub fn bytes_at(&self, start: usize) -> Result<Vec<u8>, Complaint<'_>> {
+        if let b"--raw" = self.name(start) {
+            if self.is_followed(start) {
+                return Err(Complaint::Surplus);
+            }
+            return self.standard_input(LIMIT);
+        }
+        let text = self.text_at(start, TEXT_LIMIT)?;
+        let mut bytes = vec![in self.alloc(); 0u8; LIMIT]?;
+        let n = parse_hex(text.as_slice(), bytes.as_mut_slice(), 0, LIMIT)?;
+        bytes.truncate(n);
+        Ok(bytes)
+    }
+
+    // The entries of an order that the words from word `start` on are, or standard input lists: decimal numbers below 256.
+    pub fn entries_at(&self, start: usize) -> Result<Vec<u8>, Complaint<'_>> {
+        let text = self.text_at(start, LIMIT)?;
+        let mut entries = Vec::new(self.alloc());
+        for k in 0..=ENTRY_LIMIT {
+            let digits = word(text.as_slice(), k, b' ');
+            if digits.is_empty() {
+                return Ok(entries);
+            }
+            match parse_decimal(digits) {
+                Some(x) if x < 256 => entries.push(x as u8)?,
+                _ => return Err(Complaint::NoEntry(k)),
+            }
+        }
+        Err(Complaint::ManyEntries)
     }
 }
 
@@ -129,67 +201,4 @@ fn file<'a>(rt: &HostRuntime, path: &'a [u8]) -> Result<Vec<u8>, Complaint<'a>> 
         Ok(source) => read_all(rt.alloc(), source, LIMIT),
         Err(e) => Err(Complaint::Unread(name, e)),
     }
-}
-
-// What the file that word `i` names holds, or standard input.
-pub fn file_at<'a>(rt: &HostRuntime, args: &'a Args, i: usize) -> Result<Vec<u8>, Complaint<'a>> {
-    if args.is_given(i) {
-        file(rt, args.word(i, PATH_LIMIT))
-    } else {
-        read_all(rt.alloc(), rt.stdin(), LIMIT)
-    }
-}
-
-// The words from word `start` on, or what standard input holds if there are none.
-fn text_at<'a>(
-    rt: &HostRuntime,
-    args: &'a Args,
-    start: usize,
-    limit: usize,
-) -> Result<Vec<u8>, Complaint<'a>> {
-    if args.is_given(start) {
-        args.text_from(rt.alloc(), start, limit)
-    } else {
-        read_all(rt.alloc(), rt.stdin(), limit)
-    }
-}
-
-// Bytes, in hexadecimal by the words from word `start` on or in standard input, or by --raw as standard input has them.
-pub fn bytes_at<'a>(
-    rt: &HostRuntime,
-    args: &'a Args,
-    start: usize,
-) -> Result<Vec<u8>, Complaint<'a>> {
-    if let b"--raw" = args.name(start) {
-        if args.is_followed(start) {
-            return Err(Complaint::Surplus);
-        }
-        return read_all(rt.alloc(), rt.stdin(), LIMIT);
-    }
-    let text = text_at(rt, args, start, TEXT_LIMIT)?;
-    let mut bytes = vec![in rt.alloc(); 0u8; LIMIT]?;
-    let n = parse_hex(text.as_slice(), bytes.as_mut_slice(), 0, LIMIT)?;
-    bytes.truncate(n);
-    Ok(bytes)
-}
-
-// The entries of an order that the words from word `start` on are, or standard input lists: decimal numbers below 256.
-pub fn entries_at<'a>(
-    rt: &HostRuntime,
-    args: &'a Args,
-    start: usize,
-) -> Result<Vec<u8>, Complaint<'a>> {
-    let text = text_at(rt, args, start, LIMIT)?;
-    let mut entries = Vec::new(rt.alloc());
-    for k in 0..=ENTRY_LIMIT {
-        let digits = word(text.as_slice(), k, b' ');
-        if digits.is_empty() {
-            return Ok(entries);
-        }
-        match parse_decimal(digits) {
-            Some(x) if x < 256 => entries.push(x as u8)?,
-            _ => return Err(Complaint::NoEntry(k)),
-        }
-    }
-    Err(Complaint::ManyEntries)
 }

@@ -7,8 +7,7 @@ mod help;
 mod input;
 
 use complaint::Complaint;
-use image::RECORD_SIZE;
-use input::{Args, bytes_at, entries_at, file_at, side};
+use input::Args;
 use std::process::ExitCode;
 use text::out::{Fate, Out};
 
@@ -21,43 +20,19 @@ pub enum Status {
     Misused,
 }
 
-// The record whose text form the file that word `i` names, or standard input, holds; by its image.
-fn record_at<'a>(
-    rt: &HostRuntime,
-    args: &'a Args,
-    i: usize,
-) -> Result<[u8; RECORD_SIZE], Complaint<'a>> {
-    let text = file_at(rt, args, i)?;
-    let record = form::image_of(text.as_slice())?;
-    Ok(record)
-}
-
-// The same of the last word.
-fn last_record_at<'a>(
-    rt: &HostRuntime,
-    args: &'a Args,
-    i: usize,
-) -> Result<[u8; RECORD_SIZE], Complaint<'a>> {
-    if args.is_followed(i) {
-        return Err(Complaint::Surplus);
-    }
-    record_at(rt, args, i)
-}
-
-fn check<'a>(rt: &HostRuntime, out: &mut Out, args: &'a Args) -> Result<Status, Complaint<'a>> {
-    let side = side(args)?;
+fn check<'a>(out: &mut Out, args: &'a Args<'_>) -> Result<Status, Complaint<'a>> {
+    let side = args.side()?;
     if let b"--record" = args.name(3) {
-        let record = last_record_at(rt, args, 4)?;
+        let record = args.last_record_at(4)?;
         return Ok(answers::check_record(out, side, &record));
     }
-    let src = bytes_at(rt, args, 3)?;
+    let src = args.bytes_at(3)?;
     Ok(answers::check(out, side, src.as_slice()))
 }
 
 fn validate_resumption_from<'a>(
-    rt: &HostRuntime,
     out: &mut Out,
-    args: &'a Args,
+    args: &'a Args<'_>,
 ) -> Result<Status, Complaint<'a>> {
     if !args.is_given(2) {
         return Err(Complaint::NoRemembered);
@@ -65,19 +40,19 @@ fn validate_resumption_from<'a>(
     if args.is_followed(3) {
         return Err(Complaint::Surplus);
     }
-    let cached = match record_at(rt, args, 2) {
+    let cached = match args.record_at(2) {
         Ok(cached) => cached,
         Err(complaint) => {
-            let status = help::complain(out, rt.alloc(), complaint);
+            let status = help::complain(out, args.alloc(), &complaint);
             out.note("yuthpram: that was the remembered record\n");
             return Ok(status);
         }
     };
-    let record = record_at(rt, args, 3)?;
+    let record = args.record_at(3)?;
     Ok(answers::validate_resumption_from(out, &record, &cached))
 }
 
-fn number<'a>(rt: &HostRuntime, out: &mut Out, args: &'a Args) -> Result<Status, Complaint<'a>> {
+fn number<'a>(out: &mut Out, args: &'a Args<'_>) -> Result<Status, Complaint<'a>> {
     if let b"--write" = args.name(2) {
         if args.is_followed(3) {
             return Err(Complaint::Surplus);
@@ -87,30 +62,30 @@ fn number<'a>(rt: &HostRuntime, out: &mut Out, args: &'a Args) -> Result<Status,
         };
         return Ok(answers::encode(out, x));
     }
-    let src = bytes_at(rt, args, 2)?;
+    let src = args.bytes_at(2)?;
     Ok(answers::decode(out, src.as_slice()))
 }
 
 // The command that word 1 names.
-fn run<'a>(rt: &HostRuntime, out: &mut Out, args: &'a Args) -> Result<Status, Complaint<'a>> {
+fn run<'a>(out: &mut Out, args: &'a Args<'_>) -> Result<Status, Complaint<'a>> {
     if !args.is_given(1) {
         return Ok(help::say_help(out));
     }
     let status = match args.name(1) {
         b"read" => {
-            let side = side(args)?;
-            answers::read(out, side, bytes_at(rt, args, 3)?.as_slice())
+            let side = args.side()?;
+            answers::read(out, side, args.bytes_at(3)?.as_slice())
         }
         b"tidy" => {
-            let side = side(args)?;
-            answers::tidy(out, side, bytes_at(rt, args, 3)?.as_slice())
+            let side = args.side()?;
+            answers::tidy(out, side, args.bytes_at(3)?.as_slice())
         }
-        b"check" => check(rt, out, args)?,
-        b"write" => answers::write(out, &last_record_at(rt, args, 2)?),
-        b"length" => answers::length(out, &last_record_at(rt, args, 2)?),
-        b"order_fault" => answers::order_fault(out, entries_at(rt, args, 2)?.as_slice()),
-        b"validate_resumption_from" => validate_resumption_from(rt, out, args)?,
-        b"number" => number(rt, out, args)?,
+        b"check" => check(out, args)?,
+        b"write" => answers::write(out, &args.last_record_at(2)?),
+        b"length" => answers::length(out, &args.last_record_at(2)?),
+        b"order_fault" => answers::order_fault(out, args.entries_at(2)?.as_slice()),
+        b"validate_resumption_from" => validate_resumption_from(out, args)?,
+        b"number" => number(out, args)?,
         b"--help" | b"-h" => help::say_help(out),
         _ => return Err(Complaint::NoCommand),
     };
@@ -121,11 +96,11 @@ fn run<'a>(rt: &HostRuntime, out: &mut Out, args: &'a Args) -> Result<Status, Co
 fn answer(rt: &HostRuntime, out: &mut Out) -> Status {
     let args = match Args::read(rt) {
         Ok(args) => args,
-        Err(_) => return help::complain(out, rt.alloc(), Complaint::NoMemory),
+        Err(_) => return help::complain(out, rt.alloc(), &Complaint::NoMemory),
     };
-    match run(rt, out, &args) {
+    match run(out, &args) {
         Ok(status) => status,
-        Err(complaint) => help::complain(out, rt.alloc(), complaint),
+        Err(complaint) => help::complain(out, rt.alloc(), &complaint),
     }
 }
 

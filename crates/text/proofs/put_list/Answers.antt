@@ -1,12 +1,13 @@
 -- `put_list` meets its contract. Assumes nothing.
 use mathlib.Core.Path.{◌≡◌, sym, ap, ◌∙◌}
+use mathlib.Core.Bool.{true, false}
 use Rattle.std.specs.Int.Bits.{bit_and}
 use Rattle.std.proofs.lemmas.Nat.{and_mask}
 use native.Mathlib.Omega.{arith}
 use borrow.Author.Tests.{lt-leb}
 use Rattle.text.specs.Text.{decimal}
 use Rattle.text.proofs.Decimals.{stored_out}
-use Rattle.text.proofs.Lists.{listed_none, listed_more, cut, whole}
+use Rattle.text.proofs.Lists.{listed_none, listed_more, cut, ended}
 use Rattle.text.proofs.put_list.Goals as goal
 
 pub loop-k-init : goal.loop-k-init
@@ -34,7 +35,14 @@ loop-k-preserved c =
     let e = stored_out _ _ l.out _ _ c.set.ensures in
     rw (e.0, b) m
 
-pub returns : goal.returns
-returns c =
+pub returns-then-is_empty : goal.returns-then-is_empty
+returns-then-is_empty c =
     let l = c.loop-k in
-    rw (c.is_empty.ensures, c.word-2.ensures) (whole _ _ _ _ _ _ l.k l.out l.invariant (omega arith) (omega arith))
+    let e = sym c.if-is_empty.true ∙ c.is_empty.ensures in
+    ended _ _ _ _ _ _ l.k l.out l.invariant (omega arith) true (rw (← c.word-2.ensures) e) (omega arith)
+
+pub returns-else-is_empty : goal.returns-else-is_empty
+returns-else-is_empty c =
+    let l = c.loop-k in
+    let e = sym c.if-is_empty.false ∙ c.is_empty.ensures in
+    ended _ _ _ _ _ _ l.k l.out l.invariant (omega arith) false (rw (← c.word-2.ensures) e) (omega arith)
