@@ -1,13 +1,13 @@
 -- The value of a preferred address, part by part, and the parameter. Assumes nothing.
 --     family_wrote                   an address and its port
---     cid_encoded, cid_fits          the ID behind its length
+--     cid_encoded, cid_fits, cid_kept    the ID behind its length
 --     token_behind                   the token
 --     address_none, address_whole, address_off    the parameter: without room, with it, and where it is not due
 --     address_due                    in a well-formed record
 use Prim.Native.Nat.{ℕ, ◌+◌, ◌-◌, ◌/◌, ◌%◌, ◌≤◌, ◌<◌}
 use mathlib.Core.List.{List, [], ◌∷◌, ◌++◌, append_assoc}
 use mathlib.Core.Path.{◌≡◌, refl, ap, sym, ◌∙◌}
-use mathlib.Core.Bool.{Bool, true, false, ◌&&◌}
+use mathlib.Core.Bool.{Bool, true, false, ◌&&◌, and-true}
 use native.Mathlib.Omega.{arith}
 use native.Mathlib.Nat.{div-one}
 use lib.ListN.{length, take, drop, set, length-append}
@@ -20,7 +20,6 @@ use Rattle.refusal.specs.Answer.{outcome_of}
 use Rattle.refusal.specs.declared.Refusal.{Refusal}
 use Rattle.refusal.proofs.Laws.{all_at}
 use Rattle.words.specs.Words.{bytes_of}
-use Rattle.words.proofs.Laws.{and-true}
 use Rattle.connection_id.specs.declared.ConnectionId.{ConnectionId}
 use Rattle.connection_id.specs.ConnectionId.{cid_wire, formed_cid, write_cid}
 use Rattle.connection_id.proofs.Laws.{cid_facts, cid_length_lem}
@@ -66,8 +65,12 @@ pub cid_fits : (c : ConnectionId) (r : Answer ℕ Refusal) (out m : List ℕ) �
 cid_fits c (Ok n) out m f h e = refl
 cid_fits c (Err r) out m f h e =
     let a : ◌≡◌ {A = Outcome ℕ} (refused (number_of r)) (accepted (length (cid_wire c))) = ap (λ (p : Outcome ℕ × List ℕ). p.0) (accept c (refused (number_of r)) out m f h e) in
-    let z : ◌≡◌ {A = ℕ} 0 1 = cc in
-    absurd (omega arith)
+    cc
+
+-- and is what its writing leaves
+pub cid_kept : (c : ConnectionId) (r : Answer ℕ Refusal) (n : ℕ) (out m : List ℕ) → formed_cid c ≡ true → 1 + c.len ≤ length out → (outcome_of r, m) ≡ write_cid c out → r ≡ Ok n
+    → Wrote (1 + c.len) (cid_wire c) out n m
+cid_kept c r n out m f h e g = cid_encoded c (outcome_of r) out m f h e n (ap outcome_of g)
 
 pub token_behind : (n k len : ℕ) (a t out m ys : List ℕ) → 17 + len ≤ length out → length t ≡ 16 → Wrote (1 + len) a out n m → (k, ys) ≡ put t (lent n m)
     → Wrote (17 + len) (a ++ t) out (n + k) (back n m ys)

@@ -14,7 +14,8 @@ use record::{PreferredAddress, SocketAddr};
 use wire::put_bytes;
 
 // Stores the parameter, if it is present and its ID is well formed, or nothing where there is no room. Gives its byte count, 0 for nothing, as the
-// writers of crate wire do.
+// writers of crate wire do. The address is taken by value: by reference two goals stayed open.
+#[tactic(auto, using(connection_id::proofs::Laws::cid_facts, crate::proofs::Address::address_off, crate::proofs::Address::address_none, crate::proofs::Address::address_whole), unfolding(catalogue::specs::Catalogue::id_at, catalogue::specs::Catalogue::ids))]
 pub fn put_address(a: PreferredAddress, out: &mut [u8]) -> usize
     ensures { (result, out.new) ≡ put (due_value (a.present && formed_cid a.connection_id) (id_at 15) (address_bytes a)) out.old }
 {

@@ -116,10 +116,10 @@ passed s cid draw payload order r h = go (settings_fit s) (formed_cid cid) (draw
         → pick {A = Outcome TransportParameters} a (pick b (pick c (pick d (accepted (record_from s cid (reserved_from draw payload) (order_from order))) (refused 6)) (refused 9)) (refused 7)) (refused 4) ≡ accepted r
         → Passed s cid draw payload order r
     go true true true true e f g i h = record { fit = e; formed = f; drawn = g; ordered = i; is = cc }
-    go true true true false e f g i h = absurd (cc)
-    go true true false d e f g i h = absurd (cc)
-    go true false c d e f g i h = absurd (cc)
-    go false b c d e f g i h = absurd (cc)
+    go true true true false e f g i h = cc
+    go true true false d e f g i h = cc
+    go true false c d e f g i h = cc
+    go false b c d e f g i h = cc
 
 record_formed : (s : Settings) (cid : ConnectionId) (draw : ℕ) (payload order : List ℕ) (r : TransportParameters) → Passed s cid draw payload order r
     → well_formed (record_from s cid (reserved_from draw payload) (order_from order)) ≡ true

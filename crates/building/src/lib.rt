@@ -2,21 +2,17 @@
 // draws at random is handed in.
 #![tactic(auto)]
 
-ghost use Rattle.std.specs.Prelude.{◌≡◌, ◌&&◌, not, ◌-◌, ◌≤◌, ◌<◌, length};
-ghost use Rattle.refusal.specs.Outcome.{pick};
+ghost use Rattle.std.specs.Prelude.{◌≡◌, ◌&&◌, not, ◌-◌, ◌<◌};
+ghost use Rattle.refusal.specs.Outcome.{accepted, refused, pick};
 ghost use Rattle.varint.specs.Number.{bound};
-ghost use Rattle.catalogue.specs.Catalogue.{places};
+ghost use Rattle.order.specs.Order.{permutation};
 ghost use Rattle.rules.specs.Rules.{is_server};
 ghost use Rattle.building.specs.Building.{settings_fit, cut_size, numbers_from, draw_fits, reserved_id, reserved_from, order_from, record_from, build};
 ghost use Rattle.refusal.specs.Answer.{outcome_of};
 
-use catalogue::{
-    ACK_DELAY_EXPONENT, ACTIVE_CONNECTION_ID_LIMIT, DEFAULTS, MAX_ACK_DELAY, NUMBERS, PLACES,
-};
+use catalogue::{ACK_DELAY_EXPONENT, ACTIVE_CONNECTION_ID_LIMIT, DEFAULTS, MAX_ACK_DELAY, NUMBERS};
 use connection_id::ConnectionId;
-use record::{
-    Optional, PreferredAddress, ReservedTransportParameter, TransportParameters, WriteOrder,
-};
+use record::{Optional, ReservedTransportParameter, TransportParameters, WriteOrder};
 use refusal::Refusal;
 use rules::Side;
 use varint::VarInt;
@@ -110,32 +106,35 @@ fn reserved_id(draw: u64) -> u64
 }
 
 // The reserved parameter of a draw and a payload.
-#[tactic(auto, unfolding(crate::specs::Building::reserved_from))]
-fn reserved_of(draw: u64, payload: &[u8]) -> ReservedTransportParameter
-    requires { (draw < bound - 27) × (length payload.now ≤ 15) }
-    ensures { result ≡ reserved_from draw payload.now }
+#[tactic(auto, using(crate::proofs::Answers::draw_facts), unfolding(crate::specs::Building::reserved_from))]
+fn reserved_of(draw: u64, payload: &[u8]) -> Result<ReservedTransportParameter, Refusal>
+    ensures { outcome_of result ≡ pick (draw_fits draw payload.now) (accepted (reserved_from draw payload.now)) (refused 9) }
 {
+    if !draw_fits(draw, payload) {
+        return Err(Refusal::InvalidDraw);
+    }
     let mut bytes = [0u8; ReservedTransportParameter::MAX_PAYLOAD_LEN];
     bytes[..payload.len()].copy_from_slice(payload);
-    ReservedTransportParameter {
+    Ok(ReservedTransportParameter {
         present: true,
         id: reserved_id(draw),
         payload: bytes,
         payload_len: payload.len() as u8,
-    }
+    })
 }
 
-#[tactic(auto, unfolding(crate::specs::Building::order_from))]
-fn order_of(order: &[u8]) -> WriteOrder
-    requires { length order.now ≡ places }
-    ensures { result ≡ order_from order.now }
+// The order to write in.
+#[tactic(auto, using(crate::proofs::Answers::order_length), unfolding(crate::specs::Building::order_from))]
+fn order_of(order: &[u8]) -> Result<WriteOrder, Refusal>
+    ensures { outcome_of result ≡ pick (permutation order.now) (accepted (order_from order.now)) (refused 6) }
 {
-    let mut places = [0u8; PLACES];
-    places.copy_from_slice(order);
-    WriteOrder {
-        present: true,
-        places,
+    if !order::is_permutation(order) {
+        return Err(Refusal::InvalidOrder);
     }
+    Ok(WriteOrder {
+        present: true,
+        places: order.try_into().unwrap(),
+    })
 }
 
 // The numbers of places 0 to 10, with the active_connection_id_limit.
@@ -160,7 +159,7 @@ fn numbers_of(s: &Settings, limit: u64) -> [u64; NUMBERS]
 }
 
 // The record of settings that fit.
-#[tactic(auto, using(record::proofs::Defaults::cid_absent, record::proofs::Defaults::token_absent, record::proofs::Defaults::address_absent), unfolding(crate::specs::Building::record_from, crate::specs::Building::id_limit, record::specs::Values::record_of, record::specs::Values::no_values))]
+#[tactic(auto, unfolding(crate::specs::Building::record_from, crate::specs::Building::id_limit))]
 fn record_of(
     s: &Settings,
     cid: ConnectionId,
@@ -180,17 +179,14 @@ fn record_of(
         },
         grease_quic_bit: s.grease_quic_bit,
         min_ack_delay: Some(TIMER_GRANULARITY),
-        original_dst_cid: Optional::default(),
-        retry_src_cid: Optional::default(),
-        stateless_reset_token: Optional::default(),
-        preferred_address: PreferredAddress::default(),
         grease_transport_parameter: reserved,
         write_order: order,
+        ..TransportParameters::default()
     }
 }
 
 // The record of these settings and this connection ID, with the reserved parameter and the order drawn.
-#[tactic(auto, using(crate::proofs::Answers::draw_facts, crate::proofs::Answers::order_length), unfolding(crate::specs::Building::build))]
+#[tactic(auto, using(refusal::proofs::Laws::raised), unfolding(crate::specs::Building::build))]
 pub fn new(
     settings: Settings,
     initial_src_cid: ConnectionId,
@@ -206,13 +202,7 @@ pub fn new(
     if !initial_src_cid.is_well_formed() {
         return Err(Refusal::IllFormed);
     }
-    if !draw_fits(draw, payload) {
-        return Err(Refusal::InvalidDraw);
-    }
-    if !order::is_permutation(order) {
-        return Err(Refusal::InvalidOrder);
-    }
-    let reserved = reserved_of(draw, payload);
-    let places = order_of(order);
+    let reserved = reserved_of(draw, payload)?;
+    let places = order_of(order)?;
     Ok(record_of(&settings, initial_src_cid, reserved, places))
 }

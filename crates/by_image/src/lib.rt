@@ -8,7 +8,8 @@ ghost use Rattle.by_image.specs.ByImage.{image_read, image_check, image_write, i
 use refusal::Refusal;
 use rules::Side;
 
-// Reads an extension, and stores the record's image. A match: by `?` the record is copied more often, and the code is half as long again.
+// Reads an extension, and stores the record's image. A match: by `?` the record is copied more often, and reading a small one through C took 1,171
+// instructions and not 965.
 #[tactic(auto, unfolding(crate::specs::ByImage::image_read, crate::specs::ByImage::record_store))]
 pub fn read(side: Side, src: &[u8], record: &mut [u8]) -> Result<usize, Refusal>
     ensures { (outcome_of result, «record».new) ≡ image_read side src.now «record».old }

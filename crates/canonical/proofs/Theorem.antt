@@ -80,8 +80,7 @@ tidy_again s e out o n hb t out' h = go (read s e) refl t
     go (accepted r) k t = again r k (tidy_stored s e out o n r hb k (ap (λ x. tidy_from x out) k ∙ t))
     go (refused m) k t =
         let p : ◌≡◌ {A = Outcome ℕ} (refused m) (accepted n) = ap (λ (a : Outcome ℕ × List ℕ). a.0) t in
-        let z : ◌≡◌ {A = ℕ} 0 1 = cc in
-        absurd (omega arith)
+        cc
 
 no_shorter :
     (s s' : Side) (e e' out o : List ℕ) (n : ℕ) (r : TransportParameters) → Bytes e → Bytes e' → tidy s e out ≡ (accepted n, o)

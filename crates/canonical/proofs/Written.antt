@@ -18,7 +18,7 @@ use Rattle.refusal.proofs.Laws.{all_at}
 use Rattle.record.specs.declared.TransportParameters.{TransportParameters}
 use Rattle.record.specs.declared.ReservedTransportParameter.{ReservedTransportParameter}
 use Rattle.rules.specs.declared.Side.{Side}
-use Rattle.catalogue.specs.Catalogue.{Kind, number, flag, cid, token, address, reserved, places, id_at, kind_at, parameter, parameter_if, widest}
+use Rattle.catalogue.specs.Catalogue.{places, id_at, kind_at, parameter, parameter_if, widest}
 use Rattle.record.specs.Values.{Bytes, Values, no_values, upd, no_reserved, record_of, values_of}
 use Rattle.record.specs.Record.{formed_reserved, well_formed, family_rules, bare}
 use Rattle.rules.specs.Rules.{value_rules, legal}
@@ -35,6 +35,7 @@ use Rattle.writer.specs.Writing.{reserved_bytes, parameter_at, extension}
 use Rattle.order.specs.Order.{permutation, catalogue_order}
 use Rattle.order.proofs.Orders.{in_catalogue}
 use Rattle.writer.proofs.Extension.{length_extension}
+use Rattle.writer.proofs.Places.{widest_le}
 use Rattle.canonical.proofs.AnyOrder.{Adds, every_order}
 
 -- an update by what is there already
@@ -63,17 +64,8 @@ reserved_skipped x h l cs = go x.present (all_at _ h 4)
         ∙ rw (step_unknown l x.id (take x.payload_len x.payload) (reserved_unknown x.id (eqb-true _ _ i)))
 
 -- no value is near 2 ^ 62 bytes
-widest_lt : (k : Kind) → widest k < 2 ^ 62
-unfolding widest
-widest_lt number = omega arith
-widest_lt flag = omega arith
-widest_lt cid = omega arith
-widest_lt token = omega arith
-widest_lt address = omega arith
-widest_lt reserved = omega arith
-
 small : (p : ℕ) {n : ℕ} → n ≤ widest (kind_at p) → n < 2 ^ 62
-small p h = omega (arith, widest_lt (kind_at p))
+small p h = omega (arith, widest_le (kind_at p))
 
 module _ (r : TransportParameters) (w : well_formed r ≡ true) (f : family_rules r.preferred_address ≡ true) where
   adds : Adds (values_of r) (parameter_at r)

@@ -1,45 +1,31 @@
 -- The laws of the tables. Assumes nothing.
---     below_at                    a test of each place below a number, by computing
 --     place_of_id, id_of_place    identifiers and places belong together
 --     place_within                an identifier's place is one of the catalogue, or the number of them
 --     id_lt                       a number holds each identifier
 --     reserved_unknown            a reserved identifier has no place
 --     number_kind, default_lt     places 0 to 10 hold numbers, and their defaults are numbers
-use Prim.Native.Nat.{ℕ, zero, suc, ◌^◌, ◌%◌, ◌≤◌, ◌<◌}
+use Prim.Native.Nat.{ℕ, suc, ◌^◌, ◌%◌, ◌≤◌, ◌<◌}
 use mathlib.Core.Path.{◌≡◌, refl, ap, sym, ◌∙◌}
 use mathlib.Core.List.{List, [], ◌∷◌}
-use mathlib.Core.Bool.{Bool, true, false, ◌&&◌, not}
+use mathlib.Core.Bool.{Bool, true, false, not}
 use native.Mathlib.Omega.{arith}
 use lib.ListN.{length, get_or, replicate, get_or-append, get_or-replicate}
 use lib.Dec.{ltb, eqb}
 use borrow.Author.Tests.{ltb-true, ne_eqb, eqb-true, eqb-false}
+use Rattle.std.proofs.lemmas.Bool.{and_parts, agree_below_at, not-true}
 use Rattle.refusal.specs.Outcome.{pick}
 use Rattle.varint.specs.Number.{bound}
 use Rattle.words.specs.Words.{every}
 use Rattle.catalogue.specs.Catalogue.{number, reserved, places, place_of, ids, id_at, kinds, other_kinds, kind_at, defaults, index_of}
 
--- a test of each place below n
-abbrev pub below : ℕ → (ℕ → Bool) → Bool
-below zero f = true
-below (suc n) f = f n && below n f
-
-pub below_at : (n : ℕ) (f : ℕ → Bool) → below n f ≡ true → (p : ℕ) → p < n → f p ≡ true
-below_at zero f h p k = absurd (omega arith)
-below_at (suc n) f h p k = go (f n) refl h (eqb p n) refl (below_at n f)
-  where
-    go : (b : Bool) → f n ≡ b → (b && below n f) ≡ true → (c : Bool) → eqb p n ≡ c → (below n f ≡ true → (q : ℕ) → q < n → f q ≡ true) → f p ≡ true
-    go true e h true d ih = ap f (eqb-true p n d) ∙ e
-    go true e h false d ih = ih h p (omega (arith, eqb-false p n d))
-    go false e h c d ih = let z : ◌≡◌ {A = ℕ} 0 1 = cc in absurd (omega arith)
-
 -- each identifier has its place and fits a number, but the one of place 11
 pub place_of_id : (p : ℕ) → p < places → eqb p 11 ≡ false → place_of (id_at p) ≡ p
 unfolding place_of id_at ids
-place_of_id p h k = eqb-true _ _ (rw k at (below_at places (λ p. pick (eqb p 11) true (eqb (place_of (id_at p)) p)) refl p h))
+place_of_id p h k = eqb-true _ _ (rw k at (agree_below_at (λ p. pick (eqb p 11) true (eqb (place_of (id_at p)) p)) (λ p. true) places p refl h))
 
 pub id_lt : (p : ℕ) → p < places → eqb p 11 ≡ false → id_at p < 2 ^ 62
 unfolding id_at ids
-id_lt p h k = ltb-true _ _ (rw k at (below_at places (λ p. pick (eqb p 11) true (ltb (id_at p) (2 ^ 62))) refl p h))
+id_lt p h k = ltb-true _ _ (rw k at (agree_below_at (λ p. pick (eqb p 11) true (ltb (id_at p) (2 ^ 62))) (λ p. true) places p refl h))
 
 index_at : (x : ℕ) (ys : List ℕ) → index_of x ys < length ys → get_or ys (index_of x ys) 0 ≡ x
 index_at x [] h = absurd (omega arith)
@@ -77,12 +63,10 @@ place_within id = go (ltb id bound)
 -- an identifier with remainder 27 on division by 31 is unknown
 none_of : (x : ℕ) (ys : List ℕ) → every (λ y. not (eqb (y % 31) 27)) ys ≡ true → x % 31 ≡ 27 → index_of x ys ≡ length ys
 none_of x [] h k = refl
-none_of x (y ∷ ys) h k = go (eqb (y % 31) 27) refl h (none_of x ys)
-  where
-    go : (b : Bool) → eqb (y % 31) 27 ≡ b → (not b && every (λ y. not (eqb (y % 31) 27)) ys) ≡ true
-        → (every (λ y. not (eqb (y % 31) 27)) ys ≡ true → x % 31 ≡ 27 → index_of x ys ≡ length ys) → index_of x (y ∷ ys) ≡ suc (length ys)
-    go true e h ih = let z : ◌≡◌ {A = ℕ} 0 1 = cc in absurd (omega arith)
-    go false e h ih = let n = eqb-false (y % 31) 27 e in rw (ne_eqb x y (λ q. n (rw q at k))) (ap suc (ih h k))
+none_of x (y ∷ ys) h k =
+    let p = and_parts (not (eqb (y % 31) 27)) (every (λ y. not (eqb (y % 31) 27)) ys) h in
+    let n : eqb x y ≡ false = ne_eqb x y (λ q. eqb-false (y % 31) 27 (not-true (eqb (y % 31) 27) p.0) (rw q at k)) in
+    rw n (ap suc (none_of x ys p.1 k))
 
 pub reserved_unknown : (x : ℕ) → x % 31 ≡ 27 → places ≤ place_of x
 unfolding place_of ids
@@ -98,4 +82,4 @@ number_kind p h = get_or-append (replicate 11 number) other_kinds reserved p h �
 
 pub default_lt : (p : ℕ) → p < 11 → get_or defaults p 0 < 2 ^ 62
 unfolding defaults
-default_lt p h = ltb-true _ _ (below_at 11 (λ p. ltb (get_or defaults p 0) (2 ^ 62)) refl p h)
+default_lt p h = ltb-true _ _ (agree_below_at (λ p. ltb (get_or defaults p 0) (2 ^ 62)) (λ p. true) 11 p refl h)

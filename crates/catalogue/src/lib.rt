@@ -56,17 +56,22 @@ pub const GREASE_QUIC_BIT: usize = 19;
 
 pub const MIN_ACK_DELAY: usize = 20;
 
-// The places of the kinds that more than one has, a bit for each: one look at a bit tells several kinds from the others.
-pub const NUMBER_PLACES: u32 = 0x1047ff;
+// The places of each kind that has more than one, a bit for each: one look at a bit tells several kinds from the others.
+pub const NUMBER_PLACES: u32 = ((1 << NUMBERS) - 1)
+    | (1 << MAX_DATAGRAM_FRAME_SIZE)
+    | (1 << MIN_ACK_DELAY);
 
-pub const FLAG_PLACES: u32 = 0x82000;
+pub const FLAG_PLACES: u32 = (1 << DISABLE_ACTIVE_MIGRATION) | (1 << GREASE_QUIC_BIT);
 
-pub const CID_PLACES: u32 = 0x70000;
+pub const CID_PLACES: u32 = (1 << ORIGINAL_DST_CID) | (1 << INITIAL_SRC_CID) | (1 << RETRY_SRC_CID);
 
 // Those of numbers, flags, IDs and the token.
-pub const SIMPLE_PLACES: u32 = 0x1f77ff;
+pub const SIMPLE_PLACES: u32 = NUMBER_PLACES
+    | FLAG_PLACES
+    | CID_PLACES
+    | (1 << STATELESS_RESET_TOKEN);
 
-// Their names.
+// The names of the places. Names, identifiers and defaults are three tables and not one of rows: the defaults are fewer, and the definitions are lists.
 pub const NAMES: [&str; PLACES] = [
     "max_idle_timeout",
     "max_udp_payload_size",
@@ -138,7 +143,7 @@ pub const MIN_ACK_DELAY_ID: u64 = IDS[MIN_ACK_DELAY];
 // The defaults of the plain numbers.
 pub const DEFAULTS: [u64; NUMBERS] = [0, 65527, 0, 0, 0, 0, 0, 0, 3, 25, 2];
 
-// The two tables are those of the definitions: for the contracts, nothing calls these.
+// These say that two of the tables are those of the definitions; nothing calls them.
 #[tactic(auto, unfolding(crate::specs::Catalogue::ids))]
 pub fn identifiers() -> [u64; PLACES]
     ensures { result ≡ ids }
@@ -154,7 +159,7 @@ pub fn default_numbers() -> [u64; NUMBERS]
 }
 
 // The place of an identifier; `PLACES` if it is unknown, and no Option: a reader marks the place, which has a bit too, before it asks whether the
-// catalogue has it. Two matches become tables; one over all identifiers becomes a jump.
+// catalogue has it. Two matches and not one over all identifiers: they become tables, one becomes a jump.
 #[tactic(auto, unfolding(crate::specs::Catalogue::place_of, crate::specs::Catalogue::ids))]
 pub fn place_of(id: u64) -> usize
     ensures { result ≡ place_of id }

@@ -2,30 +2,19 @@
 use Prim.Native.Nat.{ℕ, ◌+◌, ◌-◌, ◌≤◌, ◌<◌}
 use mathlib.Core.Path.{◌≡◌, refl, ap, ◌∙◌}
 use mathlib.Core.List.{List, [], ◌∷◌, ◌++◌}
-use mathlib.Core.Bool.{Bool, true, false}
+use mathlib.Core.Bool.{true, false}
 use native.Mathlib.Omega.{arith}
 use native.Mathlib.Numerals.{add-one}
 use lib.ListN.{length, get_or, take, drop, set}
-use borrow.Author.Tests.{le-leb, lt-leb, eq-eqb}
+use borrow.Author.Tests.{le-leb, lt-leb}
 use Rattle.std.specs.Prelude.{Result as Answer, Ok, Err}
 use Rattle.refusal.specs.Answer.{outcome_of}
-use Rattle.refusal.specs.Outcome.{Outcome, accepted, refused, all, front, store}
+use Rattle.refusal.specs.Outcome.{Outcome, accepted, refused, front, store}
 use Rattle.refusal.specs.Number.{number_of}
 use Rattle.refusal.specs.declared.Refusal.{Refusal}
 use Rattle.connection_id.specs.declared.ConnectionId.{ConnectionId}
-use Rattle.words.specs.Words.{zeros}
 use Rattle.connection_id.specs.ConnectionId.{cid_of, cid_bytes, formed_cid, make_cid, read_cid, cid_wire, write_cid}
-use Rattle.words.proofs.Laws.{and-true}
 use Rattle.connection_id.proofs.Laws.{cid_facts, cid_length_lem}
-
--- making
-pub make_long : (v : List ℕ) → 20 < length v → refused 7 ≡ make_cid v
-unfolding make_cid
-make_long v h = rw (lt-leb _ _ h)
-
-pub make_whole : (c : ConnectionId) (v : List ℕ) → c ≡ cid_of v → length v ≤ 20 → accepted c ≡ make_cid v
-unfolding make_cid
-make_whole c v e h = rw (e, le-leb _ _ h)
 
 -- made of at most 20 bytes
 pub made : (r : Answer ConnectionId Refusal) (v : List ℕ) → outcome_of r ≡ make_cid v → length v ≤ 20 → r ≡ Ok (cid_of v)
@@ -36,8 +25,7 @@ made (Ok c) v e h =
     ap Ok y
 made (Err f) v e h =
     let x : ◌≡◌ {A = Outcome ConnectionId} (refused (number_of f)) (accepted (cid_of v)) = e ∙ rw (le-leb _ _ h) in
-    let y : ◌≡◌ {A = ℕ} 0 1 = cc in
-    absurd (omega arith)
+    cc
 
 -- reading
 pub read_none : (s : List ℕ) → length s ≡ 0 → refused 1 ≡ read_cid s
@@ -63,15 +51,6 @@ read_whole c (n ∷ bs) q p h k =
     let e : n + 1 - 1 ≡ n = omega arith in
     let d : c ≡ cid_of (take n bs) = q ∙ ap (λ m. cid_of (take m bs)) e in
     rw (d, le-leb n 20 h, le-leb n (length bs) (omega arith))
-
--- well formed
-pub formed_long : (c : ConnectionId) → length c.bytes ≡ 20 → 20 < c.len → false ≡ formed_cid c
-unfolding formed_cid all
-formed_long c l h = rw (eq-eqb _ _ l, lt-leb _ _ h)
-
-pub formed_rest : (c : ConnectionId) (z : Bool) → length c.bytes ≡ 20 → c.len ≤ 20 → z ≡ zeros (drop c.len c.bytes) → z ≡ formed_cid c
-unfolding formed_cid all
-formed_rest c z l h e = rw (eq-eqb _ _ l, le-leb _ _ h, and-true) e
 
 -- writing
 pub write_ill : (c : ConnectionId) (out : List ℕ) → formed_cid c ≡ false → write_cid c out ≡ (refused 7, out)

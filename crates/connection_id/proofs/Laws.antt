@@ -9,9 +9,9 @@
 --     cid_back          a written ID reads back, with any bytes behind it
 --     cid_sound         an accepted ID is well formed, its count within the input, and its bytes the only form of it
 use Prim.Native.Nat.{ℕ, ◌+◌, ◌-◌, ◌≤◌}
-use mathlib.Core.Path.{◌≡◌, refl, ap, ap₂, sym, ◌∙◌}
+use mathlib.Core.Path.{◌≡◌, ap, ap₂, sym, ◌∙◌}
 use mathlib.Core.List.{List, [], ◌∷◌, ◌++◌}
-use mathlib.Core.Bool.{Bool, true, false, ◌&&◌}
+use mathlib.Core.Bool.{true}
 use native.Mathlib.Omega.{arith}
 use native.Mathlib.Numerals.{add-one}
 use lib.ListN.{length, take, drop, replicate, length-append, length-replicate, length-drop, take-append-drop}
@@ -19,6 +19,7 @@ use lib.Seq.{length-take-le, take-append_seam, drop-append_seam, take_at}
 use lib.Dec.{leb}
 use borrow.Author.Tests.{le-leb, leb-true, eq-eqb, eqb-true}
 use Rattle.refusal.specs.Outcome.{accepted, all}
+use Rattle.std.proofs.lemmas.Bool.{and_parts}
 use Rattle.refusal.proofs.Laws.{picked, all_at}
 use Rattle.words.specs.Words.{zeros}
 use Rattle.words.proofs.Laws.{zeros_are, zeros_replicate}
@@ -80,14 +81,10 @@ pub record Sound (bs : List ℕ) (c : ConnectionId) (n : ℕ) : Type 0 where
   pub shortest : n ≡ length (cid_wire c)
   pub same : take n bs ≡ cid_wire c
 
-both : (s t : Bool) → (s && t) ≡ true → (s ≡ true) × (t ≡ true)
-both true t h = (refl, h)
-both false t h = let z : ◌≡◌ {A = ℕ} 0 1 = cc in absurd (omega arith)
-
 pub cid_sound : (bs : List ℕ) (c : ConnectionId) (n : ℕ) → read_cid bs ≡ accepted (c, n) → Sound bs c n
 unfolding read_cid cid_of
-cid_sound [] c n e = let z : ◌≡◌ {A = ℕ} 0 1 = cc in absurd (omega arith)
-cid_sound (m ∷ bs) c n e = picked _ _ _ _ e (λ t a. go (both _ _ t) a)
+cid_sound [] c n e = cc
+cid_sound (m ∷ bs) c n e = picked _ _ _ _ e (λ t a. go (and_parts _ _ t) a)
   where
     go : (leb m 20 ≡ true) × (leb m (length bs) ≡ true) → ◌≡◌ {A = ConnectionId × ℕ} (cid_of (take m bs), m + 1) (c, n) → Sound (m ∷ bs) c n
     go t a =

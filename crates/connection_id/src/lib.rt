@@ -8,6 +8,7 @@ ghost use Rattle.refusal.specs.Answer.{outcome_of};
 use refusal::Refusal;
 use words::zero_from;
 
+// Fixed memory: an array with a length, as in the Rust.
 #[derive(Clone, Copy, Debug, Default, PartialEq, Eq)]
 pub struct ConnectionId {
     // how many bytes the ID has
@@ -21,18 +22,15 @@ impl ConnectionId {
     pub const MAX_SIZE: usize = 20;
 
     // The ID of no bytes.
-    #[tactic(auto, unfolding(crate::specs::ConnectionId::cid_of))]
+    #[tactic(auto, using(crate::proofs::Defaults::cid_default))]
     pub fn empty() -> ConnectionId
         ensures { result ≡ cid_of [] }
     {
-        ConnectionId {
-            len: 0,
-            bytes: [0u8; 20],
-        }
+        ConnectionId::default()
     }
 
     // The ID of these bytes, of which there are at most 20.
-    #[tactic(auto, using(crate::proofs::Answers::make_long, crate::proofs::Answers::make_whole))]
+    #[tactic(auto, using(std::proofs::lemmas::Bool::Decides::nat_tests), unfolding(crate::specs::ConnectionId::make_cid))]
     pub fn new(bytes: &[u8]) -> Result<ConnectionId, Refusal>
         ensures { outcome_of result ≡ make_cid bytes.now }
     {
@@ -43,6 +41,7 @@ impl ConnectionId {
     }
 
     // At most 20 bytes, and zeros after them.
+    #[tactic(auto, using(std::proofs::lemmas::Bool::Decides::nat_tests), unfolding(refusal::specs::Outcome::all, crate::specs::ConnectionId::formed_cid))]
     pub fn is_well_formed(self) -> bool
         ensures { result ≡ formed_cid self }
     {
@@ -50,7 +49,7 @@ impl ConnectionId {
         n <= ConnectionId::MAX_SIZE && zero_from(&self.bytes, n)
     }
 
-    // Whether two IDs are the same, well formed or not.
+    // Whether two IDs are the same, well formed or not: `==`, with a promise in the definitions' terms.
     #[tactic(auto, unfolding(crate::specs::ConnectionId::same_cid))]
     pub fn equals(self, other: ConnectionId) -> bool
         ensures { result ≡ same_cid self other }
@@ -78,7 +77,7 @@ impl ConnectionId {
     }
 
     // Writes the length byte and the ID to the front of `out`.
-    #[tactic(auto, using(crate::proofs::Laws::formed_within))]
+    #[tactic(auto, using(crate::proofs::Laws::formed_within, crate::proofs::Answers::write_ill, crate::proofs::Answers::write_short, crate::proofs::Answers::write_whole))]
     pub fn encode_long(self, out: &mut [u8]) -> Result<usize, Refusal>
         ensures { (outcome_of result, out.new) ≡ write_cid self out.old }
     {
@@ -98,6 +97,7 @@ impl ConnectionId {
 }
 
 // The ID of at most 20 bytes.
+#[tactic(auto, unfolding(crate::specs::ConnectionId::cid_of))]
 fn cid_of(v: &[u8]) -> ConnectionId
     requires { length v.now ≤ 20 }
     ensures { result ≡ cid_of v.now }

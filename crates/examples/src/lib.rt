@@ -1,3 +1,2 @@
-#![tactic(auto)]
-
 // The worked examples (a) to (n), as one proved list: specs/Examples.antt, with the theorem in proofs/Theorem.antt.
+#![tactic(auto)]

@@ -1,20 +1,18 @@
 // Says what a refusal means and what is at fault: of an extension which parameter, at which byte it starts, and why; of an order which entry.
 #![tactic(auto)]
 
-ghost use Rattle.std.specs.Prelude.{◌<◌, ◌≤◌, ◌-◌, length, IfOk};
-ghost use Rattle.std.specs.Iterator.{at_most};
-
 use catalogue::{
     ACK_DELAY_EXPONENT, ACTIVE_CONNECTION_ID_LIMIT, DISABLE_ACTIVE_MIGRATION, GREASE_QUIC_BIT,
     INITIAL_MAX_STREAMS_BIDI, INITIAL_MAX_STREAMS_UNI, INITIAL_SRC_CID, MAX_ACK_DELAY,
     MAX_UDP_PAYLOAD_SIZE, MIN_ACK_DELAY, NAMES, ORIGINAL_DST_CID, PLACES, PREFERRED_ADDRESS,
     RETRY_SRC_CID, STATELESS_RESET_TOKEN,
 };
-use front::{Fault, Parameter};
+use front::{Fault, Parameter, Parameters};
 use marks::{is_marked, with_mark};
 use refusal::Refusal;
 use rules::Side;
 use text::out::Out;
+use value::Received;
 
 // The parameter at fault: where it starts, its identifier if it can be read, and what is wrong.
 #[derive(Clone, Copy)]
@@ -34,61 +32,15 @@ fn is_broken(side: Side, src: &[u8]) -> bool {
     index::index(side, src).is_err()
 }
 
-// The parameter at a position, which lies behind it and within the bytes.
-fn front_at(src: &[u8], at: usize) -> Result<Parameter, Fault>
-    requires { at ≤ length src.now }
-    ensures { IfOk result (λ f. (at < f.start) × (f.start ≤ f.end) × (f.end ≤ length src.now)) }
-{
-    front::parameter_at(src, at)
-}
-
-// A parameter: its identifier, its bytes, and those of its value.
-#[derive(Clone, Copy)]
-struct Piece<'a> {
-    id: u64,
-    whole: &'a [u8],
-    value: &'a [u8],
-}
-
-// The parameters of the bytes from a position on, each with where it starts; the last is the first that cannot be read.
-#[derive(Drop)]
-struct Pieces<'a> {
-    src: &'a [u8],
-    at: usize,
-}
-
-impl<'a> Iterator for Pieces<'a> {
-    type Item = (usize, Result<Piece<'a>, Fault>);
-
-    ghost remaining = { λ s. at_most (length s.src.now - s.at) };
-
-    fn next(&mut self) -> Option<(usize, Result<Piece<'a>, Fault>)> {
-        let src = self.src;
-        let at = self.at;
-        if src.len() <= at {
-            return None;
-        }
-        match front_at(src, at) {
-            Ok(f) => {
-                self.at = f.end;
-                let piece = Piece {
-                    id: f.id,
-                    whole: &src[at..f.end],
-                    value: &src[f.start..f.end],
-                };
-                Some((at, Ok(piece)))
-            }
-            Err(fault) => {
-                self.at = src.len();
-                Some((at, Err(fault)))
-            }
-        }
-    }
-}
-
 // Whether a value fits its place, which may be met already; where it starts is not asked for.
 fn receive(met: u32, place: usize, value: &[u8]) -> Result<(), Fault> {
-    value::receive(is_marked(met, place), place, 0, value.len(), value)?;
+    let received = Received {
+        place,
+        start: 0,
+        len: value.len(),
+        rest: value,
+    };
+    received.receive(is_marked(met, place))?;
     Ok(())
 }
 
@@ -98,26 +50,26 @@ fn locate(side: Side, src: &[u8]) -> Option<Culprit> {
     let mut met: u32 = 0;
     let mut breaker: Option<Culprit> = None;
     let mut delay: Option<Culprit> = None;
-    for (at, read) in (Pieces { src, at: 0 }) {
-        let piece = match read {
-            Ok(piece) => piece,
+    for (at, read) in (Parameters { src, at: 0 }) {
+        let Parameter { id, start, end } = match read {
+            Ok(parameter) => parameter,
             Err(fault) => return Some(Culprit {
                 at,
                 id: None,
                 fault,
             }),
         };
-        let id = Some(piece.id);
-        let place = catalogue::place_of(piece.id);
+        let place = catalogue::place_of(id);
+        let id = Some(id);
         if place < PLACES {
-            if let Err(fault) = receive(met, place, piece.value) {
+            if let Err(fault) = receive(met, place, &src[start..end]) {
                 return Some(Culprit { at, id, fault });
             }
             met = with_mark(met, place);
             let fault = Fault::Illegal;
             if place == MIN_ACK_DELAY {
                 delay = Some(Culprit { at, id, fault });
-            } else if breaker.is_none() && is_broken(side, piece.whole) {
+            } else if breaker.is_none() && is_broken(side, &src[at..end]) {
                 breaker = Some(Culprit { at, id, fault });
             }
         }
@@ -200,7 +152,7 @@ pub fn note_order_fault(out: &mut Out, order: &[u8]) {
         out.note(format_args!("at position {i}: entries are missing\n"));
         return;
     };
-    let fault = if (entry as usize) < PLACES {
+    let fault = if usize::from(entry) < PLACES {
         "it repeats an earlier one"
     } else {
         "out of range"

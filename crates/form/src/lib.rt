@@ -72,7 +72,7 @@ fn put_counted(digits: &[u8], out: &mut [u8], at: usize, room: usize) -> Result<
         return Ok(());
     }
     let len = match parse_hex(digits, out, at + 1, room) {
-        Ok(n) => (n & 0xff) as u8,
+        Ok(n) => u8::try_from(n).unwrap_or(255),
         Err(HexError::Long) => 255,
         Err(_) => return Err(Complaint::Digits),
     };

@@ -32,7 +32,7 @@ pub record Front (bs : List ℕ) (id : ℕ) (v rest : List ℕ) : Type 0 where
 
 pub not_cut : {A : Type 0} (o : Outcome A) (a : A) → or_cut o ≡ accepted a → o ≡ accepted a
 not_cut (accepted b) a e = cc
-not_cut (refused n) a e = let z : ◌≡◌ {A = ℕ} 0 1 = cc in absurd (omega arith)
+not_cut (refused n) a e = cc
 
 pub at_front : (bs : List ℕ) (i : ℕ × List ℕ × List ℕ) → read_parameter bs ≡ accepted i → Front bs i.0 i.1 i.2
 unfolding read_parameter

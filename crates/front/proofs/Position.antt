@@ -9,7 +9,8 @@ use mathlib.Core.Bool.{Bool, true, false}
 use native.Mathlib.Omega.{arith}
 use native.Mathlib.Nat.{add-zero}
 use lib.ListN.{length, get_or, take, drop, length-drop, drop_of_length-le}
-use lib.Seq.{take_all, drop-drop, get_or-drop}
+use lib.Seq.{drop-drop, get_or-drop}
+use Rattle.std.proofs.lemmas.List.{take_rest}
 use lib.Bits.{bit_or, or_add_and, and_le_l, and_le_r}
 use lib.Dec.{leb}
 use borrow.Author.Tests.{le-leb, lt-leb, leb-true}
@@ -27,20 +28,17 @@ use Rattle.front.proofs.Front.{not_cut}
 abbrev pub lent : List ℕ → ℕ → List ℕ
 lent s at = take (length s - at) (drop at s)
 
-pub lent_is : (s : List ℕ) (at : ℕ) → lent s at ≡ drop at s
-lent_is s at = take_all (length s - at) (drop at s) (rw length-drop (omega arith))
-
 pub none_there : (s : List ℕ) (at : ℕ) → length s < at → refused Cut ≡ located s at
 unfolding located read_number
 none_there s at h = let k : length s ≤ at = omega arith in rw (drop_of_length-le s k)
 
 pub first_cut : (s : List ℕ) (at e : ℕ) → read_number (lent s at) ≡ refused e → refused Cut ≡ located s at
 unfolding located
-first_cut s at e k = let j : read_number (drop at s) ≡ refused e = rw (lent_is s at) at k in rw j
+first_cut s at e k = let j : read_number (drop at s) ≡ refused e = rw (take_rest s at) at k in rw j
 
 module _ (s : List ℕ) (at id n : ℕ) (first : read_number (lent s at) ≡ accepted (id, n)) where
   is_first : read_number (drop at s) ≡ accepted (id, n)
-  is_first = rw (lent_is s at) at first
+  is_first = rw (take_rest s at) at first
 
   pub first_within : at ≤ length s → (1 ≤ n) × (at + n ≤ length s)
   first_within h =
@@ -50,11 +48,11 @@ module _ (s : List ℕ) (at id n : ℕ) (first : read_number (lent s at) ≡ acc
 
   pub second_cut : (e : ℕ) → read_number (lent s (at + n)) ≡ refused e → refused Cut ≡ located s at
   unfolding located
-  second_cut e k = let j : read_number (drop (at + n) s) ≡ refused e = rw (lent_is s (at + n)) at k in rw (is_first, j)
+  second_cut e k = let j : read_number (drop (at + n) s) ≡ refused e = rw (take_rest s (at + n)) at k in rw (is_first, j)
 
   module _ (len m : ℕ) (second : read_number (lent s (at + n)) ≡ accepted (len, m)) where
     is_second : read_number (drop (at + n) s) ≡ accepted (len, m)
-    is_second = rw (lent_is s (at + n)) at second
+    is_second = rw (take_rest s (at + n)) at second
 
     pub second_within : at + n ≤ length s → (1 ≤ m) × (at + n + m ≤ length s)
     second_within h =
@@ -77,7 +75,7 @@ one_byte s at h k =
     let l : 0 < length (drop at s) = rw length-drop (omega arith) in
     let t : 0 ≡ get_or (drop at s) 0 0 / 64 = omega arith in
     let v : get_or (drop at s) 0 0 % 64 ≡ get_or s at 0 = omega arith in
-    rw (lent_is s at) (read_whole (drop at s) 0 l t l 0 refl ∙ ap (λ (x : ℕ). accepted (x, 1)) v)
+    rw (take_rest s at) (read_whole (drop at s) 0 l t l 0 refl ∙ ap (λ (x : ℕ). accepted (x, 1)) v)
 
 -- an identifier and a length of one byte each
 module _ (s : List ℕ) (at id len : ℕ) (room : 2 ≤ length s - at) (hi : id ≡ get_or s at 0) (hl : len ≡ get_or s (at + 1) 0) (h : bit_or (get_or s at 0) (get_or s (at + 1) 0) < 64) where

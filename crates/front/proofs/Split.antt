@@ -31,7 +31,7 @@ tail_cut w m x v bs cs k l i =
 
 number_cut : (bs cs : List ℕ) (v n : ℕ) → read_number bs ≡ accepted (v, n) → read_number (take n bs ++ cs) ≡ accepted (v, n)
 unfolding read_number
-number_cut [] cs v n e = let z : ◌≡◌ {A = ℕ} 0 1 = cc in absurd (omega arith)
+number_cut [] cs v n e = cc
 number_cut (b ∷ bs) cs v n e =
     picked _ _ (v, n) 3 e λ t q.
     let j : 2 ^ (b / 64) ≡ n = ap (λ r. r.1) q in

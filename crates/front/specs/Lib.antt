@@ -1,3 +1,4 @@
 pub mod Parameter
 pub mod Answer
 pub mod Whole
+pub mod Walk

@@ -1,9 +1,11 @@
 // The parameter at the front of some bytes: identifier, length and value (RFC 9000 section 18); and what can be wrong with a parameter.
 #![tactic(auto)]
 
-ghost use Rattle.std.specs.Prelude.{◌≡◌, ◌≤◌, length};
+ghost use Rattle.std.specs.Prelude.{◌≡◌, ◌≤◌, ◌-◌, length};
+ghost use Rattle.std.specs.Iterator.{at_most};
 ghost use Rattle.front.specs.Parameter.{located};
 ghost use Rattle.front.specs.Answer.{refused_with, parameter_outcome};
+ghost use Rattle.front.specs.Walk.{Steps};
 
 use refusal::Refusal;
 use varint::VarInt;
@@ -42,6 +44,7 @@ pub struct Parameter {
 }
 
 // The parameter at a position. An identifier and a length of one byte each stand apart: most are.
+#[tactic(auto, using(crate::proofs::Position::none_there, crate::proofs::Position::short_whole, crate::proofs::Position::short_beyond))]
 pub fn parameter_at(src: &[u8], at: usize) -> Result<Parameter, Fault>
     ensures { parameter_outcome result ≡ located src.now at }
 {
@@ -68,7 +71,7 @@ pub fn parameter_at(src: &[u8], at: usize) -> Result<Parameter, Fault>
     any_parameter_at(src, at)
 }
 
-#[tactic(auto, using(crate::proofs::Position::first_within, crate::proofs::Position::second_within))]
+#[tactic(auto, using(crate::proofs::Position::first_within, crate::proofs::Position::second_within, crate::proofs::Position::first_cut, crate::proofs::Position::second_cut, crate::proofs::Position::whole, crate::proofs::Position::beyond))]
 fn any_parameter_at(src: &[u8], at: usize) -> Result<Parameter, Fault>
     requires { at ≤ length src.now }
     ensures { parameter_outcome result ≡ located src.now at }
@@ -90,4 +93,33 @@ fn any_parameter_at(src: &[u8], at: usize) -> Result<Parameter, Fault>
         start,
         end: start + (len as usize),
     })
+}
+
+// The parameters of the bytes from a position on, each with where it starts; the last is the first that cannot be read.
+#[derive(Drop)]
+pub struct Parameters<'a> {
+    pub src: &'a [u8],
+    pub at: usize,
+}
+
+impl<'a> Iterator for Parameters<'a> {
+    type Item = (usize, Result<Parameter, Fault>);
+
+    ghost next_gives = { Steps };
+
+    ghost remaining = { λ s. at_most (length s.src.now - s.at) };
+
+    #[tactic(auto, using(crate::proofs::Position::within))]
+    fn next(&mut self) -> Option<(usize, Result<Parameter, Fault>)> {
+        let at = self.at;
+        if self.src.len() <= at {
+            return None;
+        }
+        let read = parameter_at(self.src, at);
+        self.at = match read {
+            Ok(p) => p.end,
+            Err(_) => self.src.len(),
+        };
+        Some((at, read))
+    }
 }

@@ -1,18 +1,19 @@
 -- The image of a record: its size, and that the stores of the code leave it. Assumes nothing.
 --     laid          parts stored one after another are their image
 --     parts_sizes   the sizes of a record's parts, of arrays as long as their types say
---     room, no_room what storing an image answers
+--     room, room_front, no_room   what storing an image answers
 use Prim.Native.Nat.{ℕ, ◌+◌, ◌*◌, ◌≤◌, ◌<◌}
 use mathlib.Core.Path.{◌≡◌, refl, ap, ap₂, sym, ◌∙◌}
-use mathlib.Core.List.{List, [], ◌∷◌, ◌++◌, map, append-nil, append_assoc}
+use mathlib.Core.List.{List, [], ◌∷◌, ◌++◌, map, map-append, append-nil, append_assoc}
 use mathlib.Core.Bool.{Bool, true, false}
 use mir.Val.{bool_byte}
 use native.Mathlib.Numerals.{add-one}
 use native.Mathlib.Omega.{arith}
-use lib.ListN.{length, get_or, take, set, length-append}
+use lib.ListN.{length, get_or, take, drop, set, length-append}
 use lib.Seq.{sets, take-suc, length-take-le}
 use borrow.Author.Tests.{le-leb, lt-leb}
-use Rattle.refusal.specs.Outcome.{accepted, refused, store}
+use Rattle.std.proofs.lemmas.List.{drop_all}
+use Rattle.refusal.specs.Outcome.{accepted, refused, front as at_front, store}
 use Rattle.varint.proofs.Bytes.{stored}
 use Rattle.words.proofs.Big.{length_bytes_of}
 use Rattle.record.specs.declared.TransportParameters.{TransportParameters}
@@ -94,6 +95,14 @@ room bs out ys n l h e =
     let k : length bs ≤ length out = rw l h in
     rw (le-leb (length bs) (length out) k, l, e, stored bs out k)
 
+-- the same, stored in the first n bytes of `out`
+pub room_front : (bs out ys : List ℕ) (n : ℕ) → length bs ≡ n → n ≤ length out → ys ≡ sets (take n out) 0 bs → (accepted n, ys ++ drop n out) ≡ store bs out
+unfolding store at_front
+room_front bs out ys n l h e =
+    let long : length (take n out) ≡ n = length-take-le n out h in
+    let none : drop (length bs) (take n out) ≡ [] = drop_all (length bs) (take n out) (omega arith) in
+    rw (le-leb (length bs) (length out) (omega arith), e, stored bs (take n out) (omega arith), none, append-nil bs, l)
+
 -- THE RECORD, of arrays as long as their types say
 pub record Sized (r : TransportParameters) : Type 0 where
   pub numbers : length r.numbers ≡ 11
@@ -124,10 +133,6 @@ rest_sizes = 1 ∷ 8 ∷ 1 ∷ 16 ∷ 1 ∷ 21 ∷ []
 abbrev pub sizes : List ℕ
 sizes = front_sizes ++ (id_sizes ++ (address_sizes ++ rest_sizes))
 
-map_append : (ps qs : List (List ℕ)) → map length (ps ++ qs) ≡ map length ps ++ map length qs
-map_append [] qs = refl
-map_append (p ∷ ps) qs = ap (λ t. length p ∷ t) (map_append ps qs)
-
 -- parts of these sizes, how long they are
 long : (ps : List (List ℕ)) (ns : List ℕ) → map length ps ≡ ns → length (joined ps) ≡ sum ns
 long ps ns e = joined_size ps ∙ ap sum e
@@ -151,7 +156,7 @@ module _ (r : TransportParameters) (z : Sized r) where
 
   pub parts_sizes : map length (parts r) ≡ sizes
   unfolding parts
-  parts_sizes = simp map_append (rw (front, ids, address, rest))
+  parts_sizes = simp map-append (rw (front, ids, address, rest))
 
   pub image_size : length (image_of r) ≡ 303
   unfolding image_of

@@ -6,7 +6,7 @@ ghost use Rattle.std.proofs.lemmas.List.Edits.{sets};
 ghost use Rattle.refusal.specs.Answer.{outcome_of};
 ghost use Rattle.refusal.specs.Outcome.{store};
 ghost use Rattle.record.specs.Values.{of_address};
-ghost use Rattle.image.specs.Image.{record_size, numbers_image, cid_image, optional_parts, optional_cid_parts, family_parts, address_parts, joined, front_parts, id_parts, rest_parts, image_of};
+ghost use Rattle.image.specs.Image.{numbers_image, cid_image, optional_parts, optional_cid_parts, family_parts, address_parts, joined, front_parts, id_parts, rest_parts, image_of};
 
 use catalogue::NUMBERS;
 use connection_id::ConnectionId;
@@ -18,7 +18,8 @@ pub const RECORD_SIZE: usize = 303;
 
 pub const CID_SIZE: usize = 21;
 
-// STORING AN IMAGE, at a place where there is room. Arrays are passed by value: so the compiler knows that none lies in `out`.
+// STORING AN IMAGE, at a place where there is room. Arrays are passed by value: so the compiler knows that none lies in `out`. `at` and `out` stand apart, as
+// in crate imaged: a struct of both would be made at each call.
 fn put_bytes<const N: usize>(bytes: [u8; N], at: usize, out: &mut [u8])
     requires { at + N ≤ length out.old }
     ensures { out.new ≡ sets out.old at bytes.entry }
@@ -26,7 +27,8 @@ fn put_bytes<const N: usize>(bytes: [u8; N], at: usize, out: &mut [u8])
     out[at..at + N].copy_from_slice(&bytes);
 }
 
-// Stores a byte, a flag or a length, and what stands behind it.
+// Stores a byte, a flag or a length, and what stands behind it. Here and below the size of what is stored is told too: a caller sees no length of an array,
+// and would have to show it each time.
 fn put_behind<const N: usize>(first: u8, bytes: [u8; N], at: usize, out: &mut [u8])
     requires { at + 1 + N ≤ length out.old }
     ensures stored { out.new ≡ sets out.old at (first ∷ bytes.entry) }
@@ -36,8 +38,8 @@ fn put_behind<const N: usize>(first: u8, bytes: [u8; N], at: usize, out: &mut [u
     put_bytes(bytes, at + 1, out);
 }
 
-fn put_numbers(numbers: &[u64; NUMBERS], out: &mut [u8])
-    requires { record_size ≤ length out.old }
+#[tactic(auto, using(crate::proofs::Stores::numbers_more, crate::proofs::Stores::numbers_size), unfolding(crate::specs::Image::eight_bytes))]
+fn put_numbers(numbers: &[u64; NUMBERS], out: &mut [u8; RECORD_SIZE])
     ensures stored { out.new ≡ sets out.old 0 (numbers_image numbers.now) }
     ensures size { length (numbers_image numbers.now) ≡ 88 }
 {
@@ -46,6 +48,7 @@ fn put_numbers(numbers: &[u64; NUMBERS], out: &mut [u8])
     }
 }
 
+#[tactic(auto, using(crate::proofs::Stores::behind, crate::proofs::Stores::done, crate::proofs::Stores::laid, crate::proofs::Stores::flag_stored, crate::proofs::Stores::joined_size, crate::proofs::Stores::eight), unfolding(crate::specs::Image::eight_bytes))]
 fn put_optional(o: Option<u64>, at: usize, out: &mut [u8])
     requires { at + 9 ≤ length out.old }
     ensures stored { out.new ≡ sets out.old at (joined (optional_parts o)) }
@@ -72,6 +75,7 @@ fn put_optional_cid(o: &Optional<ConnectionId>, at: usize, out: &mut [u8])
     put_cid(&o.value, at + 1, out);
 }
 
+#[tactic(auto, using(crate::proofs::Stores::joined_size))]
 fn put_family<const N: usize>(a: &SocketAddr<N>, at: usize, out: &mut [u8])
     requires { at + 3 + N ≤ length out.old }
     ensures stored { out.new ≡ sets out.old at (joined (family_parts (of_address a.now))) }
@@ -82,8 +86,7 @@ fn put_family<const N: usize>(a: &SocketAddr<N>, at: usize, out: &mut [u8])
 }
 
 // The parts of a record's image: up to the connection IDs, up to the address, the address, and from the reserved parameter on.
-fn put_front(r: &TransportParameters, out: &mut [u8])
-    requires { record_size ≤ length out.old }
+fn put_front(r: &TransportParameters, out: &mut [u8; RECORD_SIZE])
     ensures { out.new ≡ sets out.old 0 (joined (front_parts r.now)) }
 {
     put_numbers(&r.numbers, out);
@@ -93,8 +96,7 @@ fn put_front(r: &TransportParameters, out: &mut [u8])
     put_optional(r.min_ack_delay, 99, out);
 }
 
-fn put_ids(r: &TransportParameters, out: &mut [u8])
-    requires { record_size ≤ length out.old }
+fn put_ids(r: &TransportParameters, out: &mut [u8; RECORD_SIZE])
     ensures { out.new ≡ sets out.old 108 (joined (id_parts r.now)) }
 {
     let token = &r.stateless_reset_token;
@@ -104,8 +106,7 @@ fn put_ids(r: &TransportParameters, out: &mut [u8])
     put_behind(u8::from(token.present), token.value.bytes, 174, out);
 }
 
-fn put_address(a: &PreferredAddress, out: &mut [u8])
-    requires { record_size ≤ length out.old }
+fn put_address(a: &PreferredAddress, out: &mut [u8; RECORD_SIZE])
     ensures { out.new ≡ sets out.old 191 (joined (address_parts a.now)) }
 {
     out[191] = u8::from(a.present);
@@ -115,8 +116,7 @@ fn put_address(a: &PreferredAddress, out: &mut [u8])
     put_bytes(a.stateless_reset_token.bytes, 239, out);
 }
 
-fn put_rest(r: &TransportParameters, out: &mut [u8])
-    requires { record_size ≤ length out.old }
+fn put_rest(r: &TransportParameters, out: &mut [u8; RECORD_SIZE])
     ensures { out.new ≡ sets out.old 255 (joined (rest_parts r.now)) }
 {
     let reserved = &r.grease_transport_parameter;
@@ -132,20 +132,22 @@ fn put_rest(r: &TransportParameters, out: &mut [u8])
 }
 
 // Stores the image of a record at the front of `out`.
+#[tactic(auto, using(crate::proofs::Stores::image_size, crate::proofs::Stores::no_room))]
 pub fn image_to(r: TransportParameters, out: &mut [u8]) -> Result<usize, Refusal>
     ensures { (outcome_of result, out.new) ≡ store (image_of r) out.old }
 {
-    if out.len() < RECORD_SIZE {
+    let Some(image) = out.first_chunk_mut() else {
         return Err(Refusal::BufferTooShort);
-    }
-    put_front(&r, out);
-    put_ids(&r, out);
-    put_address(&r.preferred_address, out);
-    put_rest(&r, out);
+    };
+    put_front(&r, image);
+    put_ids(&r, image);
+    put_address(&r.preferred_address, image);
+    put_rest(&r, image);
     Ok(RECORD_SIZE)
 }
 
 // Stores the image of a connection ID at the front of `out`.
+#[tactic(auto, using(crate::proofs::Stores::no_room, crate::proofs::Stores::room))]
 pub fn cid_to(c: ConnectionId, out: &mut [u8]) -> Result<usize, Refusal>
     ensures { (outcome_of result, out.new) ≡ store (cid_image c) out.old }
 {

@@ -5,13 +5,14 @@
 use Prim.Native.Nat.{ℕ, zero, suc, ◌+◌, ◌^◌, ◌<◌}
 use mathlib.Core.Path.{◌≡◌, refl, ap, ap₂, sym, ◌∙◌}
 use mathlib.Core.List.{List, [], ◌∷◌, ◌++◌, map, append_assoc}
-use mathlib.Core.Bool.{Bool, true, false, ◌&&◌, ◌||◌}
+use mathlib.Core.Bool.{Bool, true, false, ◌||◌}
 use native.Mathlib.Nat.{add-zero, mod-eq_of_lt}
 use native.Mathlib.Omega.{arith}
 use lib.ListN.{length, get_or, drop, get_or-map}
 use lib.Seq.{take_at, take_all, drop_at, drop-drop, drop-append-add, get_or-drop}
 use lib.Dec.{T, leb, ltb, eqb, lit<}
 use borrow.Author.Tests.{eqb-true, ltb-true, eq-eqb}
+use Rattle.std.proofs.lemmas.Bool.{and_parts}
 use Rattle.refusal.specs.Outcome.{accepted, pick, all}
 use Rattle.refusal.proofs.Laws.{all_at}
 use Rattle.varint.specs.Number.{bound}
@@ -56,15 +57,11 @@ eight_back : (x : ℕ) → x < bound → value_from 0 (eight_bytes x) ≡ x
 unfolding eight_bytes
 eight_back x h = number_back 8 x (omega arith)
 
-both : (a b : Bool) → (a && b) ≡ true → (a ≡ true) × (b ≡ true)
-both true b e = (refl, e)
-both false b e = let z : ◌≡◌ {A = ℕ} 0 1 = cc in absurd (omega arith)
-
 numbers_back : (ns s : List ℕ) (at : ℕ) (t : List ℕ) → every (λ x. ltb x bound) ns ≡ true → drop at s ≡ numbers_image ns ++ t → numbers_at (length ns) at s ≡ ns
 numbers_back [] s at t h e = refl
 numbers_back (x ∷ ns) s at t h e =
     let f : drop at s ≡ eight_bytes x ++ (numbers_image ns ++ t) = e ∙ append_assoc (eight_bytes x) (numbers_image ns) t in
-    let p = both (ltb x bound) (every (λ x. ltb x bound) ns) h in
+    let p = and_parts (ltb x bound) (every (λ x. ltb x bound) ns) h in
     ap₂ (λ (y : ℕ) (ys : List ℕ). y ∷ ys) (rw (f, take_at (eight_bytes x) (numbers_image ns ++ t) 8 (eight x)) (eight_back x (ltb-true _ _ p.0)))
     (numbers_back ns s (at + 8) t p.1 (sym (drop-drop 8 at s) ∙ rw f (drop_at (eight_bytes x) (numbers_image ns ++ t) 8 (eight x))))
 

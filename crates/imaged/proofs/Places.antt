@@ -2,36 +2,25 @@
 --     flags_more     a turn of the loop that tests the flags
 --     image_long     how long an image is
 use Prim.Native.Nat.{ℕ, suc, ◌+◌, ◌<◌}
-use mathlib.Core.Path.{◌≡◌, refl, sym}
+use mathlib.Core.Path.{◌≡◌, refl}
 use mathlib.Core.List.{List}
-use mathlib.Core.Bool.{Bool, true, false, ◌&&◌}
+use mathlib.Core.Bool.{Bool, true, ◌&&◌, and_assoc, and-true}
 use native.Mathlib.Numerals.{add-one}
 use native.Mathlib.Omega.{arith}
 use lib.ListN.{length, get_or, drop}
 use lib.Seq.{drop-cons}
 use lib.Dec.{leb}
-use lib.Bits.{bit_or, bit_and, or_lt, or_add_and, and_le_l, and_le_r}
-use borrow.Author.Tests.{le-leb, lt-leb, leb-true, leb-false, eqb-true}
+use lib.Bits.{bit_or}
+use borrow.Author.Tests.{eqb-true}
 use Rattle.refusal.proofs.Laws.{all_at}
 use Rattle.words.specs.Words.{every}
-use Rattle.words.proofs.Laws.{and_assoc, and-true}
+use Rattle.words.proofs.Laws.{or_below}
+use Rattle.std.proofs.lemmas.Bool.Decides.{nat_tests}
 use Rattle.image.specs.Image.{flag_places, flags_hold, is_image}
 
 -- FLAGS: those met are joined in acc, and the rest stand from the i-th place on
 or_flags : (a b : ℕ) → leb (bit_or a b) 1 ≡ (leb a 1 && leb b 1)
-or_flags a b = go (leb a 1) refl (leb b 1) refl
-  where
-    sum : bit_or a b + bit_and a b ≡ a + b
-    sum = or_add_and a b
-
-    go : (s : Bool) → leb a 1 ≡ s → (t : Bool) → leb b 1 ≡ t → leb (bit_or a b) 1 ≡ (s && t)
-    go true e true f =
-        let x : a < 2 = omega (arith, leb-true a 1 e) in
-        let y : b < 2 = omega (arith, leb-true b 1 f) in
-        let z : bit_or a b < 2 = or_lt 1 a b x y in
-        le-leb (bit_or a b) 1 (omega arith)
-    go true e false f = lt-leb (bit_or a b) 1 (omega (arith, sum, leb-false b 1 f, and_le_l a b))
-    go false e t f = lt-leb (bit_or a b) 1 (omega (arith, sum, leb-false a 1 e, and_le_r a b))
+or_flags a b = grind (arith, nat_tests, or_below 1 a b)
 
 pub flags_from : List ℕ → ℕ → ℕ → Bool
 flags_from s acc i = leb acc 1 && every (λ p. leb (get_or s p 0) 1) (drop i flag_places)
@@ -41,7 +30,7 @@ module _ (s : List ℕ) (acc i : ℕ) where
   unfolding flag_places flags_from
   flags_more h =
       rw (add-one, drop-cons flag_places i 0 h, or_flags acc (get_or s (get_or flag_places i 0) 0))
-      (sym (and_assoc (leb acc 1) (leb (get_or s (get_or flag_places i 0) 0) 1) (every (λ p. leb (get_or s p 0) 1) (drop (suc i) flag_places))))
+      (and_assoc (leb acc 1) (leb (get_or s (get_or flag_places i 0) 0) 1) (every (λ p. leb (get_or s p 0) 1) (drop (suc i) flag_places)))
 
   pub flags_none : i ≡ 13 → flags_from s acc i ≡ leb acc 1
   unfolding flags_from flag_places

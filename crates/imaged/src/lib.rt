@@ -4,7 +4,7 @@
 ghost use Rattle.std.specs.Prelude.{◌≡◌, [], ◌+◌, ◌≤◌, ◌<◌, length};
 ghost use Rattle.refusal.specs.Answer.{outcome_of};
 ghost use Rattle.record.specs.Values.{token_of, of_address};
-ghost use Rattle.image.specs.Image.{record_size, part, flag_at, number_at, numbers_at, optional_at, cid_at, optional_cid_at, address_at, record_at, flags_hold, zero_if_absent, is_image, record_from, cid_from};
+ghost use Rattle.image.specs.Image.{part, flag_at, number_at, numbers_at, optional_at, cid_at, optional_cid_at, address_at, record_at, flags_hold, zero_if_absent, is_image, record_from, cid_from};
 
 use catalogue::NUMBERS;
 use connection_id::ConnectionId;
@@ -18,17 +18,15 @@ use refusal::Refusal;
 // Where the flags stand in the image of a record.
 const FLAGS: [usize; 13] = [88, 89, 90, 99, 108, 130, 152, 174, 191, 192, 199, 255, 281];
 
-// Bytes at a place, as an array.
+// Bytes at a place, as an array. Here and below `s` and `at` stand apart: images are of two sizes, and a struct of both would be made at each call.
 fn bytes_at<const N: usize>(s: &[u8], at: usize) -> [u8; N]
     requires { at + N ≤ length s.now }
     ensures { result ≡ part at N s.now }
 {
-    let mut bytes = [0u8; N];
-    bytes.copy_from_slice(&s[at..at + N]);
-    bytes
+    s[at..at + N].try_into().unwrap()
 }
 
-// Numbers have the high byte first.
+// Numbers have the high byte first. They and ports are two functions: from_be_bytes is no method of a trait.
 fn number_at(s: &[u8], at: usize) -> u64
     requires { at + 8 ≤ length s.now }
     ensures { result ≡ number_at at 8 s.now }
@@ -50,8 +48,7 @@ fn flag_at(s: &[u8], at: usize) -> bool
     s[at] == 1
 }
 
-fn numbers_at(s: &[u8]) -> [u64; NUMBERS]
-    requires { record_size ≤ length s.now }
+fn numbers_at(s: &[u8; RECORD_SIZE]) -> [u64; NUMBERS]
     ensures { result ≡ numbers_at 11 0 s.now }
 {
     let mut numbers = [0; NUMBERS];
@@ -113,8 +110,7 @@ fn family_at<const N: usize>(s: &[u8], at: usize) -> SocketAddr<N>
 }
 
 #[tactic(auto, unfolding(image::specs::Image::address_at))]
-fn address_at(s: &[u8]) -> PreferredAddress
-    requires { record_size ≤ length s.now }
+fn address_at(s: &[u8; RECORD_SIZE]) -> PreferredAddress
     ensures { result ≡ address_at s.now }
 {
     PreferredAddress {
@@ -126,8 +122,7 @@ fn address_at(s: &[u8]) -> PreferredAddress
     }
 }
 
-fn record_at(s: &[u8]) -> TransportParameters
-    requires { record_size ≤ length s.now }
+fn record_at(s: &[u8; RECORD_SIZE]) -> TransportParameters
     ensures { result ≡ record_at s.now }
 {
     TransportParameters {
@@ -158,8 +153,8 @@ fn record_at(s: &[u8]) -> TransportParameters
 }
 
 // Whether every flag is 0 or 1.
-fn flags_hold(s: &[u8]) -> bool
-    requires { record_size ≤ length s.now }
+#[tactic(auto, using(crate::proofs::Places::flags_more, crate::proofs::Places::flags_none, crate::proofs::Places::flags_all), unfolding(image::specs::Image::flag_places))]
+fn flags_hold(s: &[u8; RECORD_SIZE]) -> bool
     ensures { result ≡ flags_hold s.now }
 {
     let mut acc: u8 = 0;
@@ -179,10 +174,10 @@ fn zero_if_absent(s: &[u8], at: usize) -> bool
 }
 
 #[tactic(auto, unfolding(image::specs::Image::is_image, refusal::specs::Outcome::all))]
-fn is_image(s: &[u8]) -> bool
+fn is_image(s: &[u8; RECORD_SIZE]) -> bool
     ensures { result ≡ is_image s.now }
 {
-    s.len() == RECORD_SIZE && flags_hold(s) & zero_if_absent(s, 90) & zero_if_absent(s, 99)
+    flags_hold(s) & zero_if_absent(s, 90) & zero_if_absent(s, 99)
 }
 
 // The record of an image. What is carried over need not be well formed.
@@ -190,6 +185,9 @@ fn is_image(s: &[u8]) -> bool
 pub fn record_from(image: &[u8]) -> Result<TransportParameters, Refusal>
     ensures { outcome_of result ≡ record_from image.now }
 {
+    let Some(image) = image.as_array() else {
+        return Err(Refusal::IllFormed);
+    };
     if !is_image(image) {
         return Err(Refusal::IllFormed);
     }

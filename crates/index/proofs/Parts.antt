@@ -1,48 +1,52 @@
 -- The parts of what is kept, as the definitions have them. Assumes nothing.
---     sound_within       a value that is no number stands within the extension
---     none_outside, none_unmet, none_far, there    where a value stands, and where there is none
+--     none_outside, none_number, none_unmet, of_bytes, there    where a value stands, and where there is none
 --     address_long       a preferred address that was met has a connection ID's length
 use Prim.Native.Nat.{ℕ, ◌+◌, ◌≤◌, ◌<◌}
-use mathlib.Core.Path.{◌≡◌, refl, ap, sym, ◌∙◌}
+use mathlib.Core.Path.{◌≡◌, refl, sym, ◌∙◌}
 use mathlib.Core.List.{List}
 use mathlib.Core.Option.{Option, none, some}
 use mathlib.Core.Bool.{Bool, true, false, ◌&&◌, and-false}
 use native.Mathlib.Omega.{arith}
 use lib.ListN.{length, get_or, take, drop, length-drop}
 use lib.Seq.{length-take-le, get_or-take, get_or-drop}
-use lib.Dec.{ltb, leb}
-use borrow.Author.Tests.{leb-true, lt-ltb, le-ltb, le-leb, lt-leb}
+use lib.Dec.{ltb}
+use borrow.Author.Tests.{leb-true, lt-ltb, le-ltb}
 use Rattle.refusal.specs.Outcome.{pick}
 use Rattle.refusal.proofs.Laws.{all_at, pick_cases}
 use Rattle.marks.specs.Mark.{marked}
-use Rattle.catalogue.specs.Catalogue.{number, address, places, kind_at, kinds, other_kinds, fits}
-use Rattle.index.specs.Index.{Found, id_len, value_at, value_within, Sound}
-
--- in what is sound a value that is no number stands within the extension
-pub sound_within : (s : List ℕ) (f : Found) (p : ℕ) → p < places → (kind_at p ≡ number → ⊥) → Sound s f → value_within s f p ≡ value_at s f p
-unfolding value_within
-sound_within s f p h n k = rw (lt-ltb p places h, le-leb _ _ (k.within p n))
+use Rattle.catalogue.specs.Catalogue.{Kind, number, flag, cid, token, address, reserved, places, kind_at, kinds, other_kinds, fits}
+use Rattle.value.proofs.Checks.{number_at_lem, not_number_at}
+use Rattle.index.specs.Index.{Found, id_len, value_at, holds_bytes, value_of, Sound}
 
 -- where a value stands, and where there is none
 module _ (s : List ℕ) (f : Found) (p : ℕ) where
-  pub none_outside : places ≤ p → none ≡ value_within s f p
-  unfolding value_within
+  pub none_outside : places ≤ p → none ≡ value_of s f p
+  unfolding value_of
   none_outside h = rw (le-ltb p places h)
 
-  pub none_unmet : marked f.0 p ≡ false → none ≡ value_within s f p
-  unfolding value_within value_at
-  none_unmet h =
-      pick_cases (λ (o : Option (List ℕ)). none ≡ o) (ltb p places && leb (get_or f.1 p 0 + get_or f.2 p 0) (length s)) (value_at s f p) none
-      (λ _. rw h) (λ _. refl)
+  pub none_number : marked 0x1047ff p ≡ true → none ≡ value_of s f p
+  unfolding value_of
+  none_number m = rw (number_at_lem p m, and-false)
 
-  pub none_far : length s < get_or f.1 p 0 + get_or f.2 p 0 → none ≡ value_within s f p
-  unfolding value_within
-  none_far h = rw (lt-leb _ _ h, and-false)
+  pub none_unmet : marked f.0 p ≡ false → none ≡ value_of s f p
+  unfolding value_of value_at
+  none_unmet h = pick_cases (λ (o : Option (List ℕ)). none ≡ o) (ltb p places && holds_bytes (kind_at p)) (value_at s f p) none (λ _. rw h) (λ _. refl)
 
-  pub there : p < places → marked f.0 p ≡ true → get_or f.1 p 0 + get_or f.2 p 0 ≤ length s
-      → some (take (get_or f.2 p 0) (drop (get_or f.1 p 0) s)) ≡ value_within s f p
-  unfolding value_within value_at
-  there h m l = rw (lt-ltb p places h, le-leb _ _ l, m)
+  pub of_bytes : p < places → (kind_at p ≡ number → ⊥) → value_of s f p ≡ value_at s f p
+  unfolding value_of
+  of_bytes h n = rw (lt-ltb p places h) (go (kind_at p) n)
+    where
+      go : (k : Kind) → (k ≡ number → ⊥) → pick (holds_bytes k) (value_at s f p) none ≡ value_at s f p
+      go number n = absurd (n refl)
+      go flag n = refl
+      go cid n = refl
+      go token n = refl
+      go address n = refl
+      go reserved n = refl
+
+  pub there : p < places → marked 0x1047ff p ≡ false → marked f.0 p ≡ true → some (take (get_or f.2 p 0) (drop (get_or f.1 p 0) s)) ≡ value_of s f p
+  unfolding value_at
+  there h n m = rw (of_bytes h (not_number_at p n), m)
 
 -- 15 holds an address
 pub address_place : kind_at 15 ≡ address
@@ -50,7 +54,7 @@ unfolding kind_at kinds other_kinds
 address_place = refl
 
 pub address_no : kind_at 15 ≡ number → ⊥
-address_no e = let q : address ≡ number = sym address_place ∙ e in let z : ◌≡◌ {A = ℕ} 0 1 = cc in omega arith
+address_no e = let q : address ≡ number = sym address_place ∙ e in cc
 
 module _ (s : List ℕ) (f : Found) (i : Sound s f) where
   abbrev pub span : List ℕ
@@ -68,7 +72,7 @@ module _ (s : List ℕ) (f : Found) (i : Sound s f) where
   id_there v e = go (marked f.0 15) refl e
     where
       go : (b : Bool) → marked f.0 15 ≡ b → some v ≡ pick b (some span) none → (24 < length v) × (get_or v 24 0 ≡ pick b (get_or s (get_or f.1 15 0 + 24) 0) 0)
-      go false m q = let z : ◌≡◌ {A = ℕ} 0 1 = cc in absurd (omega arith)
+      go false m q = cc
       go true m q =
           let h = address_long m in
           let w : v ≡ span = cc in
@@ -81,4 +85,4 @@ module _ (s : List ℕ) (f : Found) (i : Sound s f) where
     where
       go : (b : Bool) → none ≡ pick b (some span) none → 0 ≡ pick b (get_or s (get_or f.1 15 0 + 24) 0) 0
       go false q = refl
-      go true q = let z : ◌≡◌ {A = ℕ} 0 1 = cc in absurd (omega arith)
+      go true q = cc

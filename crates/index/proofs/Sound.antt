@@ -117,7 +117,7 @@ start_sound s =
       long = unfold initial_kept defaults in refl;
       long_lens = refl;
       within = λ p n. rw (initial_at p, no_default p n, zero_at places p) (omega arith);
-      fit = λ p n m. absurd (let z : true ≡ false = sym m ∙ unmarked p in let y : ◌≡◌ {A = ℕ} 0 1 = cc in omega arith);
+      fit = λ p n m. absurd (let z : true ≡ false = sym m ∙ unmarked p in cc);
     }
 
 sound_in : (n : ℕ) (s : List ℕ) (at : ℕ) (f g : Found) → at ≤ length s → Sound s f → index_in n s at f ≡ accepted g → Sound s g

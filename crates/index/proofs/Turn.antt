@@ -16,7 +16,8 @@ use Rattle.catalogue.specs.Catalogue.{places, place_of}
 use Rattle.catalogue.proofs.Places.{place_within}
 use Rattle.front.specs.declared.Fault.{Fault}
 use Rattle.front.specs.Parameter.{located}
-use Rattle.front.proofs.Position.{lent, lent_is, within}
+use Rattle.std.proofs.lemmas.List.{take_rest}
+use Rattle.front.proofs.Position.{lent, within}
 use Rattle.value.specs.Value.{receive_value}
 use Rattle.index.specs.Index.{Found, keep, note, between, index_in, index_from}
 
@@ -44,7 +45,7 @@ fuel (suc n) (suc m) s at f hn hm = go (ltb at (length s)) refl (fuel n m)
 
 -- a value at the front of what is lent
 pub value_lent : (s : List ℕ) (p a e : ℕ) (b t : Bool) (o : Result Fault ℕ) → o ≡ receive_value b p a (take (e - a) (lent s a)) → b ≡ t → o ≡ receive_value t p a (between s a e)
-value_lent s p a e b t o h q = h ∙ rw (lent_is s a, q)
+value_lent s p a e b t o h q = h ∙ rw (take_rest s a, q)
 
 pub known : (p id : ℕ) → p ≡ place_of id → (p ≡ places → ⊥) → p < places
 known p id e n = omega (arith, place_within id)

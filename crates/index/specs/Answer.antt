@@ -14,9 +14,10 @@ abbrev pub scan_outcome : Answer (Unit {0}) Fault → Entries → Result Fault F
 scan_outcome (Ok u) e = accepted (found_of e)
 scan_outcome (Err f) e = refused f
 
-abbrev pub index_outcome : Answer Entries Fault → Result Fault Found
-index_outcome (Ok e) = accepted (found_of e)
-index_outcome (Err f) = refused f
+-- what is found, of what an answer gives
+abbrev pub index_outcome : {K : Type 0} → (K → Found) → Answer K Fault → Result Fault Found
+index_outcome found (Ok k) = accepted (found k)
+index_outcome found (Err f) = refused f
 
 -- a value that may be missing
 abbrev pub given : Maybe (List ℕ) → Option (List ℕ)

@@ -1,11 +1,11 @@
 -- What is kept of an extension: marks of the places met; by place, the number or where the value starts; and the value's length.
-use Rattle.std.specs.Prelude.{ℕ, zero, suc, ◌+◌, ◌-◌, ◌%◌, ◌≤◌, List, [], ◌∷◌, ◌++◌, ◌≡◌, Bool, true, ◌&&◌, length, get_or, take, drop, set, replicate, ltb, leb}
+use Rattle.std.specs.Prelude.{ℕ, zero, suc, ◌+◌, ◌-◌, ◌%◌, ◌≤◌, List, [], ◌∷◌, ◌++◌, ◌≡◌, Bool, true, false, ◌&&◌, length, get_or, take, drop, set, replicate, ltb}
 use Rattle.std.specs.Prelude.{None, Some}
 use Rattle.std.proofs.Math.Option.{Option, none, some}
 use Rattle.refusal.specs.Outcome.{Result, accepted, refused, pick, and_then, all}
 use Rattle.words.specs.Words.{elements}
 use Rattle.marks.specs.Mark.{marked, mark}
-use Rattle.catalogue.specs.Catalogue.{number, places, place_of, kind_at, defaults, fits}
+use Rattle.catalogue.specs.Catalogue.{Kind, number, flag, cid, token, address, reserved, places, place_of, kind_at, defaults, fits}
 use Rattle.record.specs.Optional.{OptionalNumber}
 use Rattle.rules.specs.declared.Side.{Side}
 use Rattle.rules.specs.Rules.{is_server, number_rules, presence_rules}
@@ -54,9 +54,18 @@ index_from s at f = index_in (length s - at) s at f
 unfoldable pub value_at : List ℕ → Found → ℕ → Option (List ℕ)
 value_at s f p = pick (marked f.0 p) (some (take (get_or f.2 p 0) (drop (get_or f.1 p 0) s))) none
 
--- the same where it stands within the extension; none elsewhere
-unfoldable pub value_within : List ℕ → Found → ℕ → Option (List ℕ)
-value_within s f p = pick (ltb p places && leb (get_or f.1 p 0 + get_or f.2 p 0) (length s)) (value_at s f p) none
+-- a kind whose values are no numbers
+abbrev pub holds_bytes : Kind → Bool
+holds_bytes number = false
+holds_bytes flag = true
+holds_bytes cid = true
+holds_bytes token = true
+holds_bytes address = true
+holds_bytes reserved = true
+
+-- the value at a place; none at one that holds a number
+unfoldable pub value_of : List ℕ → Found → ℕ → Option (List ℕ)
+value_of s f p = pick (ltb p places && holds_bytes (kind_at p)) (value_at s f p) none
 
 -- the number at one that holds a number
 abbrev pub optional_at : Found → ℕ → OptionalNumber

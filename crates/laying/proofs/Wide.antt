@@ -7,16 +7,19 @@
 use Prim.Native.Nat.{ℕ, zero, suc, ◌+◌, ◌-◌, ◌*◌, ◌/◌, ◌%◌, ◌^◌, ◌≤◌, ◌<◌}
 use mathlib.Core.List.{List, [], ◌∷◌, ◌++◌, append_assoc}
 use mathlib.Core.Path.{◌≡◌, refl, ap, ap₂, sym, ◌∙◌}
-use mathlib.Core.Bool.{Bool, true, false, ◌&&◌, not}
+use mathlib.Core.Bool.{Bool, true, false, ◌&&◌, and-false}
 use mir.Val.{bool_byte}
 use native.Mathlib.Omega.{arith}
 use native.Mathlib.Nat.{div-one}
-use lib.ListN.{length, take, drop, set, replicate, length-append, length-drop, length-set, length-replicate, take-append-drop}
+use lib.ListN.{length, take, drop, set, replicate, length-append, length-drop, length-replicate, take-append-drop}
 use lib.Seq.{sets-eq, take_at, drop_at, drop-drop, take-take, take-append-le, drop-append-add, length-take-le}
 use lib.Bits.{bit_or}
 use lib.Dec.{ltb, leb, eqb}
-use borrow.Author.Tests.{le-leb, lt-leb, leb-true, ltb-true, ltb-false, lt-ltb, le-ltb}
+use borrow.Author.Tests.{le-leb, lt-leb, leb-true, ltb-true, lt-ltb, le-ltb}
+use Rattle.std.proofs.lemmas.List.{take_rest}
 use Rattle.refusal.specs.Outcome.{pick, front}
+use Rattle.std.proofs.lemmas.Bool.{and_parts}
+use Rattle.std.proofs.lemmas.Bool.Decides.{nat_tests}
 use Rattle.varint.specs.Number.{bound, form, tag_of, number_bytes}
 use Rattle.varint.proofs.Bytes.{four, tag_le, length_form}
 use Rattle.catalogue.specs.Catalogue.{parameter}
@@ -24,30 +27,12 @@ use Rattle.words.specs.Words.{zeros, bytes_of}
 use Rattle.words.proofs.Laws.{joined, zeros_are, zeros_replicate, zeros_append}
 use Rattle.wire.specs.Wire.{put, due_value, due_number}
 use Rattle.laying.specs.Laying.{lay, number_rest, laid_number, laid_field}
-use Rattle.wire.proofs.Stored.{lent, back, rest, whole, length_front, length_lent, front_nil, front_two}
+use Rattle.wire.proofs.Stored.{lent, back, whole, length_front, front_nil, front_two}
 use Rattle.wire.proofs.Put.{put_whole, number_size_lem, number_low, is_due, one_byte, due_short, short_form}
-
--- a test from a limit on is that below it, turned
-over : (l x : ℕ) → leb l x ≡ not (ltb x l)
-over l x = go (ltb x l) refl
-  where
-    go : (t : Bool) → ltb x l ≡ t → leb l x ≡ not t
-    go true e = lt-leb l x (ltb-true x l e)
-    go false e = le-leb l x (ltb-false x l e)
 
 pub tag_sum : (x : ℕ) → bool_byte (leb 64 x) + bool_byte (leb 16384 x) + bool_byte (leb 1073741824 x) ≡ tag_of x
 unfolding tag_of
-tag_sum x = rw (over 64 x, over 16384 x, over 1073741824 x) (go (ltb x 64) refl (ltb x 16384) refl (ltb x 1073741824) refl)
-  where
-    go : (a : Bool) → ltb x 64 ≡ a → (b : Bool) → ltb x 16384 ≡ b → (d : Bool) → ltb x 1073741824 ≡ d
-        → bool_byte (not a) + bool_byte (not b) + bool_byte (not d) ≡ pick a 0 (pick b 1 (pick d 2 3))
-    go true e true f true g = refl
-    go true e true f false g = absurd (omega (arith, ltb-true x 64 e, ltb-false x 1073741824 g))
-    go true e false f d g = absurd (omega (arith, ltb-true x 64 e, ltb-false x 16384 f))
-    go false e true f true g = refl
-    go false e true f false g = absurd (omega (arith, ltb-true x 16384 f, ltb-false x 1073741824 g))
-    go false e false f true g = refl
-    go false e false f false g = refl
+tag_sum x = grind (arith, nat_tests)
 
 eight : {a b d e f g h i a' b' d' e' f' g' h' i' : ℕ} → a ≡ a' → b ≡ b' → d ≡ d' → e ≡ e' → f ≡ f' → g ≡ g' → h ≡ h' → i ≡ i'
     → ◌≡◌ {A = List ℕ} (a ∷ b ∷ d ∷ e ∷ f ∷ g ∷ h ∷ i ∷ []) (a' ∷ b' ∷ d' ∷ e' ∷ f' ∷ g' ∷ h' ∷ i' ∷ [])
@@ -98,11 +83,7 @@ lay_nil room out = go (leb room (length out))
 pub zeros_dropped : (n : ℕ) (l : List ℕ) → zeros l ≡ true → zeros (drop n l) ≡ true
 zeros_dropped zero l h = h
 zeros_dropped (suc n) [] h = refl
-zeros_dropped (suc n) (b ∷ l) h = go (eqb b 0) h (zeros_dropped n l)
-  where
-    go : (t : Bool) → (t && zeros l) ≡ true → (zeros l ≡ true → zeros (drop n l) ≡ true) → zeros (drop n l) ≡ true
-    go true e ih = ih e
-    go false e ih = let z : ◌≡◌ {A = ℕ} 0 1 = cc in absurd (omega arith)
+zeros_dropped (suc n) (b ∷ l) h = zeros_dropped n l (and_parts (eqb b 0) (zeros l) h).1
 
 same_zeros : (a b : List ℕ) → zeros a ≡ true → zeros b ≡ true → length a ≡ length b → a ≡ b
 same_zeros a b h k e = zeros_are a h ∙ ap (λ (n : ℕ). replicate n 0) e ∙ sym (zeros_are b k)
@@ -135,7 +116,7 @@ headed ds vs out m ys a t e h k r f g =
     let dm : drop (a + 1 + length vs) m ≡ drop (a + 1 + length vs) out =
     let i : a + 1 + length vs ≡ length w + (a + 1 + length vs - 8) = omega arith in
     rw i (ap (drop (length w + (a + 1 + length vs - 8))) f ∙ drop-append-add w (drop (length w) out) (a + 1 + length vs - 8) ∙ drop-drop (a + 1 + length vs - 8) (length w) out) in
-    let y : ys ≡ vs ++ drop (a + 1 + length vs) out = g ∙ rw (rest (a + 1) m, drop-drop (length vs) (a + 1) m, dm) in
+    let y : ys ≡ vs ++ drop (a + 1 + length vs) out = g ∙ rw (take_rest m (a + 1), drop-drop (length vs) (a + 1) m, dm) in
     let n : length (ds ++ (t ∷ vs)) ≡ a + 1 + length vs = rw (length-append ds (t ∷ vs)) (omega arith) in
     rw (whole (a + 1) m ys)
     (sets-eq (t ∷ []) l a ll ∙ rw (ta, da, y, n, append_assoc, append_assoc))
@@ -165,10 +146,7 @@ wide_stored x k r s out e f g =
 -- a number that is not due, or that the wire form does not carry
 module _ (id x : ℕ) (out : List ℕ) where
   idle : (due a b d : Bool) → (due && (a && b)) ≡ false → pick ((due && a) && (b && d)) (parameter id (number_bytes x)) [] ≡ []
-  idle true true true d h = let z : ◌≡◌ {A = ℕ} 0 1 = cc in absurd (omega arith)
-  idle true true false d h = refl
-  idle true false b d h = refl
-  idle false a b d h = refl
+  idle due a b d h = let z : ((due && a) && (b && d)) ≡ false = grind (arith, nat_tests) in rw z
 
   pub number_idle : (due : Bool) → (due && (ltb x bound && ltb id bound)) ≡ false → (0, out) ≡ laid_number due id x out
   unfolding laid_number number_rest due_number due_value
@@ -178,11 +156,7 @@ module _ (id x : ℕ) (out : List ℕ) where
   number_off due e = number_idle due (rw e)
 
   pub id_beyond : bound ≤ id → (0, out) ≡ laid_number true id x out
-  id_beyond h = number_idle true (rw (le-ltb _ _ h) (both (ltb x bound)))
-    where
-      both : (b : Bool) → (b && false) ≡ false
-      both true = refl
-      both false = refl
+  id_beyond h = number_idle true (rw (le-ltb _ _ h) (and-false (ltb x bound)))
 
   pub number_beyond : bound ≤ x → (0, out) ≡ laid_number true id x out
   number_beyond h = number_idle true (rw (le-ltb _ _ h))
@@ -234,10 +208,6 @@ wide_room x a out m h e f =
 abbrev pub is_field : ℕ → List ℕ → Bool
 is_field n v = leb 8 (length v) && (ltb (length v) 64 && leb n (length v))
 
-and_both : (a b : Bool) → (a && b) ≡ true → (a ≡ true) × (b ≡ true)
-and_both true b h = (refl, h)
-and_both false b h = let z : ◌≡◌ {A = ℕ} 0 1 = cc in absurd (omega arith)
-
 pub record Field (n : ℕ) (v : List ℕ) : Type 0 where
   pub least : 8 ≤ length v
   pub most : length v < 64
@@ -246,8 +216,8 @@ pub record Field (n : ℕ) (v : List ℕ) : Type 0 where
 
 pub field : (n : ℕ) (v : List ℕ) → is_field n v ≡ true → Field n v
 field n v h =
-    let p = and_both (leb 8 (length v)) _ h in
-    let q = and_both (ltb (length v) 64) _ p.1 in
+    let p = and_parts (leb 8 (length v)) _ h in
+    let q = and_parts (ltb (length v) 64) _ p.1 in
     let w = leb-true n (length v) q.1 in
     record { least = leb-true 8 (length v) p.0; most = ltb-true (length v) 64 q.0; within = w; part = length-take-le n v w }
 

@@ -1,6 +1,6 @@
 // Parameters laid at the front of a buffer with room to spare: others that do not count are stored behind each, as zeros where the buffer is zeros.
 // So a number is stored without a branch on its width, and a field whole. Each gives the parameter's byte count, or stores nothing and gives 0,
-// as the writers of crate wire do.
+// as the writers of crate wire do, and `due` stands beside the value for the reason given there.
 #![tactic(auto)]
 
 ghost use Rattle.std.specs.Prelude.{◌≡◌, true, ◌&&◌, ◌++◌, ◌-◌, ◌*◌, ◌^◌, ◌<◌, ◌≤◌, length, replicate, leb, ltb};
@@ -16,6 +16,7 @@ use wire::put_bytes;
 const WIDEST: usize = 17;
 
 // The tag of the shortest form, without a branch.
+#[tactic(auto, using(crate::proofs::Wide::tag_sum))]
 fn tag_of(x: u64) -> u32
     ensures { result ≡ tag_of x }
 {
@@ -23,19 +24,24 @@ fn tag_of(x: u64) -> u32
 }
 
 // The form of a tag, and zeros behind it.
+#[tactic(auto, using(crate::proofs::Wide::bits, crate::proofs::Wide::wide_bytes, crate::proofs::Wide::eight_bytes))]
 fn wide_form(tag: u32, x: u64) -> [u8; 8]
     requires { (tag ≤ 3) × (x < 64 * 256 ^ (2 ^ tag - 1)) }
     ensures { result ≡ form tag x ++ replicate (8 - 2 ^ tag) 0 }
 {
     let bits: u32 = 8 << tag;
-    let high = (((tag as u64) << (bits - 2)) | x) << (64 - bits);
+    let high = ((u64::from(tag) << (bits - 2)) | x) << (64 - bits);
     high.to_be_bytes()
 }
 
 // Stores a number's shortest form, and zeros behind it, up to eight bytes; gives the form's length.
+// That x is below 2^62 is asked: a `VarInt` holds any number, and a type of three functions would be longer than their clauses.
+#[tactic(auto, using(varint::proofs::Bytes::tag_le, varint::proofs::Bytes::tag_room))]
 fn put_wide(x: u64, out: &mut [u8]) -> usize
     requires { (x < 2 ^ 62) × (8 ≤ length out.old) }
-    ensures { (result ≡ length (number_bytes x)) × (out.new ≡ front (number_bytes x ++ replicate (8 - result) 0) out.old) }
+    ensures count { result ≡ length (number_bytes x) }
+    ensures stored { out.new ≡ front (number_bytes x ++ replicate (8 - result) 0) out.old }
+    ensures room { (result ≤ 8) × (length out.new ≡ length out.old) }
 {
     let tag = tag_of(x);
     out[..8].copy_from_slice(&wide_form(tag, x));
@@ -43,6 +49,7 @@ fn put_wide(x: u64, out: &mut [u8]) -> usize
 }
 
 // A parameter that holds a number.
+#[tactic(auto, using(crate::proofs::Wide::number_off, crate::proofs::Wide::number_short, crate::proofs::Wide::id_beyond, crate::proofs::Wide::number_beyond))]
 pub fn lay_number(due: bool, id: u64, x: u64, out: &mut [u8]) -> usize
     ensures { (result, out.new) ≡ laid_number due id x out.old }
 {
@@ -65,6 +72,7 @@ pub fn lay_number(due: bool, id: u64, x: u64, out: &mut [u8]) -> usize
 }
 
 // Behind an identifier of one byte; most are.
+#[tactic(auto, using(crate::proofs::Wide::number_shortly))]
 fn lay_short(id: u64, x: u64, out: &mut [u8]) -> usize
     requires { (id < 64) × (x < 2 ^ 62) × (17 ≤ length out.old) }
     ensures { (result, out.new) ≡ laid_number true id x out.old }
@@ -76,6 +84,7 @@ fn lay_short(id: u64, x: u64, out: &mut [u8]) -> usize
 }
 
 // Behind any other: the zeros behind it are written over.
+#[tactic(auto, using(wire::proofs::Stored::behind, crate::proofs::Wide::number_widely))]
 fn lay_long(id: u64, x: u64, out: &mut [u8]) -> usize
     requires { (id < 2 ^ 62) × (x < 2 ^ 62) × (17 ≤ length out.old) }
     ensures { (result, out.new) ≡ laid_number true id x out.old }
@@ -88,6 +97,7 @@ fn lay_long(id: u64, x: u64, out: &mut [u8]) -> usize
 }
 
 // The first `n` bytes of a field as a value; all of the field is stored.
+#[tactic(auto, using(crate::proofs::Wide::field, crate::proofs::Wide::field_off, crate::proofs::Wide::no_field, crate::proofs::Wide::field_beyond, crate::proofs::Wide::field_short))]
 pub fn lay_field(due: bool, id: u64, n: usize, v: &[u8], out: &mut [u8]) -> usize
     ensures { (result, out.new) ≡ laid_field due id n v.now out.old }
 {

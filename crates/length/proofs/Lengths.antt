@@ -1,5 +1,6 @@
 -- The lengths that the code adds up are those of the parameters due. Assumes nothing.
 --     not_due, is_due    of a parameter
+--     due_or_none    of a number
 --     all_lengths        all of them, for a well-formed record
 use Prim.Native.Nat.{ℕ, ◌+◌, ◌≤◌, ◌<◌}
 use mathlib.Core.Path.{◌≡◌, refl, ap}
@@ -22,13 +23,14 @@ use Rattle.catalogue.proofs.Sums.{sum_eq}
 use Rattle.record.specs.declared.TransportParameters.{TransportParameters}
 use Rattle.record.specs.Optional.{OptionalNumber}
 use Rattle.std.specs.Prelude.{None, Some}
+use Rattle.std.specs.Bool.{then_some}
 use Rattle.record.specs.Optional.{OptionalConnectionId}
 use Rattle.record.specs.declared.ReservedTransportParameter.{ReservedTransportParameter}
 use Rattle.record.specs.Values.{number_out, optional_out, flag_out, cid_out, token_out, address_out, other_values, values_of}
 use Rattle.record.specs.Record.{formed_optional_cid, formed_token, formed_optional_token, formed_reserved, well_formed}
 use Rattle.record.proofs.Address.{address_length_lem}
 use Rattle.writer.specs.Writing.{reserved_bytes, parameter_at, length_of}
-use Rattle.length.specs.Length.{value_length, number_length_at, optional_length, cid_length, reserved_length, others_length}
+use Rattle.length.specs.Length.{value_length, number_length, number_length_at, optional_length, cid_length, reserved_length, others_length}
 
 -- what the code gives for a parameter
 pub not_due : (id n : ℕ) → 0 ≡ value_length false id n
@@ -38,6 +40,12 @@ not_due id n = refl
 pub is_due : (id n a b : ℕ) → a ≡ length (number_bytes id) → b ≡ length (number_bytes n) → a + b + n ≡ value_length true id n
 unfolding value_length
 is_due id n a b e f = rw (e, f)
+
+-- a number that is there if it is due
+pub due_or_none : (due : Bool) (id x : ℕ) → optional_length id (then_some due x) ≡ number_length due id x
+unfolding value_length
+due_or_none true id x = refl
+due_or_none false id x = refl
 
 -- a value that is sent if something holds
 value_length_lem : (id n : ℕ) (due : Bool) (v : List ℕ) → length v ≡ n → length (parameter_if id (pick due (some v) none)) ≡ value_length due id n
@@ -111,10 +119,6 @@ module _ (r : TransportParameters) (w : well_formed r ≡ true) where
   pub measured : (n m : ℕ) → n ≡ sum 11 (number_length_at r.numbers) → m ≡ others_length r → accepted (n + m) ≡ length_of r
   unfolding length_of
   measured n m f g = rw (w, f, g) (ap accepted all_lengths)
-
-  pub eleven : length r.numbers ≡ 11
-  unfolding well_formed
-  eleven = eqb-true _ _ (all_at _ w 0)
 
 pub not_measured : (r : TransportParameters) → well_formed r ≡ false → refused 7 ≡ length_of r
 unfolding length_of

@@ -29,7 +29,7 @@ all_last : (l : List Bool) (x y : Bool) → all (l ++ (x ∷ [])) ≡ true → y
 unfolding all
 all_last [] x y h k = rw k
 all_last (true ∷ l) x y h k = all_last l x y h k
-all_last (false ∷ l) x y h k = let z : ◌≡◌ {A = ℕ} 0 1 = cc in absurd (omega arith)
+all_last (false ∷ l) x y h k = cc
 
 -- a record that was measured
 module _ (r : TransportParameters) (n : ℕ) (h : length_of r ≡ accepted n) where
@@ -100,7 +100,7 @@ ill_formed r out = (λ e. there (well_formed r) e, λ e. back (well_formed r) (p
 
     there : (a : Bool) → pick {A = Outcome ℕ} a (accepted (sum places (λ p. length (parameter_at r p)))) (refused 7) ≡ refused 7
         → pick {A = Answered} a (pick (permutation os) (store (extension r os) out) (refused 6, out)) (refused 7, out) ≡ (refused 7, out)
-    there true e = let z : ◌≡◌ {A = ℕ} 0 1 = cc in absurd (omega arith)
+    there true e = cc
     there false e = refl
 
     back : (a b : Bool) → pick {A = Answered} a (pick b (store (extension r os) out) (refused 6, out)) (refused 7, out) ≡ (refused 7, out)

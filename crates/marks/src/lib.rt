@@ -1,4 +1,4 @@
-// Marks of places already met: bit k of the mask is place k's. The masks are plain numbers: the catalogue's constants are asked the same. The tests
+// Marks of places already met: bit k of the mask is place k's. The masks are plain numbers: the catalogue's constants are masks too. The tests
 // return early and shift by a `u32`: by `place < 32 && (marks >> place) & 1 == 1` reading took 3 to 5 percent more instructions.
 #![tactic(auto)]
 
@@ -7,6 +7,7 @@ ghost use Rattle.refusal.specs.Outcome.{pick};
 ghost use Rattle.marks.specs.Mark.{marked, mark};
 
 // Whether a place is marked; none from 32 on is.
+#[tactic(auto, using(crate::proofs::Laws::marked_beyond), unfolding(crate::specs::Mark::marked))]
 pub fn is_marked(marks: u32, place: usize) -> bool
     ensures { result ≡ marked marks place }
 {
@@ -18,6 +19,7 @@ pub fn is_marked(marks: u32, place: usize) -> bool
 }
 
 // The marks with that of a place set; there is none for places from 32 on.
+#[tactic(auto, unfolding(crate::specs::Mark::mark))]
 pub fn with_mark(marks: u32, place: usize) -> u32
     ensures { result ≡ pick (ltb place 32) (mark marks place) marks }
 {

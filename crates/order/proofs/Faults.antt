@@ -21,6 +21,8 @@ use lib.ListN.{length, get_or, take, length-append, get_or-append}
 use lib.Seq.{take-suc, take-length, length-take-le, take-append-le, get_or-take}
 use lib.Dec.{eqb, ltb}
 use borrow.Author.Tests.{ltb-true, ltb-false, leb-true, leb-false, lt-ltb, le-ltb, le-leb, lt-leb, eqb-true, eqb-false, eq-eqb, ne_eqb}
+use Rattle.std.proofs.lemmas.Bool.{or_cases, or_parts}
+use Rattle.std.proofs.lemmas.Bool.Decides.{nat_tests}
 use Rattle.refusal.specs.Outcome.{pick, all}
 use Rattle.marks.specs.Mark.{marked, mark}
 use Rattle.marks.proofs.Laws.{marked_same, marked_other}
@@ -99,28 +101,16 @@ member_last q x [] = refl
 member_last q x (p ∷ xs) = rw (member_last q x xs) (swap (eqb q p) (eqb q x) (member q xs))
   where
     swap : (a b c : Bool) → (a || (b || c)) ≡ (b || (a || c))
-    swap true b c = sym (or-true b)
-    swap false b c = refl
-
-eqb_sym : (a b : ℕ) → eqb a b ≡ eqb b a
-eqb_sym a b = go (eqb b a) refl
-  where
-    go : (t : Bool) → eqb b a ≡ t → eqb a b ≡ t
-    go true e = eq-eqb a b (sym (eqb-true b a e))
-    go false e = ne_eqb a b (λ f. eqb-false b a e (sym f))
+    swap a b c = grind (arith, nat_tests)
 
 distinct_last : (x : ℕ) (xs : List ℕ) → distinct (xs ++ (x ∷ [])) ≡ (distinct xs && (ltb x places && not (member x xs)))
 distinct_last x [] = refl
 distinct_last x (p ∷ xs) =
-    rw (member_last p x xs, distinct_last x xs, eqb_sym p x) (go (ltb p places) (eqb x p) (member p xs) (distinct xs) (ltb x places) (member x xs))
+    let e : eqb p x ≡ eqb x p = grind (arith, nat_tests) in
+    rw (member_last p x xs, distinct_last x xs, e) (go (ltb p places) (eqb x p) (member p xs) (distinct xs) (ltb x places) (member x xs))
   where
     go : (a b c d e f : Bool) → (a && (not (b || c) && (d && (e && not f)))) ≡ ((a && (not c && d)) && (e && not (b || f)))
-    go false b c d e f = refl
-    go true b true d e f = rw (or-true b)
-    go true false false d e f = refl
-    go true true false false e f = refl
-    go true true false true false f = refl
-    go true true false true true f = refl
+    go a b c d e f = grind (arith, nat_tests)
 
 abbrev is_none : Option ℕ → Bool
 is_none none = true
@@ -164,8 +154,8 @@ none_permutation os = go (first_below (length os) (faulty os)) refl (rw (take-le
 -- what an answer says of it
 pub answered : (os : List ℕ) (r : Answer ℕ) (b : Bool) → fault_position r ≡ order_fault os → is_some_of r ≡ not b → b ≡ permutation os
 answered os None true e h = ap is_none e ∙ none_permutation os
-answered os None false e h = let z : ◌≡◌ {A = ℕ} 0 1 = cc in absurd (omega arith)
-answered os (Some k) true e h = let z : ◌≡◌ {A = ℕ} 0 1 = cc in absurd (omega arith)
+answered os None false e h = cc
+answered os (Some k) true e h = cc
 answered os (Some k) false e h = ap is_none e ∙ none_permutation os
 
 nothing_wrong : (os : List ℕ) → (order_fault os ≡ none) ↔ (permutation os ≡ true)
@@ -173,30 +163,19 @@ nothing_wrong os = (λ e. sym (none_permutation os) ∙ ap is_none e, λ p. is_n
   where
     is_none_lem : (o : Option ℕ) → is_none o ≡ true → o ≡ none
     is_none_lem none e = refl
-    is_none_lem (some k) e = let z : ◌≡◌ {A = ℕ} 0 1 = cc in absurd (omega arith)
+    is_none_lem (some k) e = cc
 
 -- WHAT THE POSITION SAYS
 member_at : (q : ℕ) (os : List ℕ) → member q os ≡ true → (j : ℕ) × (j < length os) × (get_or os j 0 ≡ q)
-member_at q [] e = let z : ◌≡◌ {A = ℕ} 0 1 = cc in absurd (omega arith)
-member_at q (p ∷ os) e = go (eqb q p) refl e (member_at q os)
-  where
-    go : (b : Bool) → eqb q p ≡ b → (b || member q os) ≡ true → (member q os ≡ true → (j : ℕ) × (j < length os) × (get_or os j 0 ≡ q))
-        → (j : ℕ) × (j < length (p ∷ os)) × (get_or (p ∷ os) j 0 ≡ q)
-    go true x e r = (0, omega arith, sym (eqb-true q p x))
-    go false x e r = (suc (r e).0, omega (arith, (r e).1), (r e).2)
+member_at q [] e = cc
+member_at q (p ∷ os) e =
+    ⊎_elim (λ x. (0, omega arith, sym (eqb-true q p x)))
+    (λ m. let r = member_at q os m in (suc r.0, omega (arith, r.1), r.2)) (or_cases (eqb q p) (member q os) e)
 
 at_member : (os : List ℕ) (i : ℕ) → i < length os → member (get_or os i 0) os ≡ true
 at_member [] i h = absurd (omega arith)
 at_member (p ∷ os) zero h = rw (eq-eqb p p refl)
 at_member (p ∷ os) (suc i) h = rw (at_member os i (omega arith)) (or-true (eqb (get_or os i 0) p))
-
-either : (a b : Bool) → (a || b) ≡ true → (a ≡ true) ⊎ (b ≡ true)
-either true b e = inl refl
-either false b e = inr e
-
-neither : (a b : Bool) → (a || b) ≡ false → (a ≡ false) × (b ≡ false)
-neither true b e = let z : ◌≡◌ {A = ℕ} 0 1 = cc in absurd (omega arith)
-neither false b e = (refl, e)
 
 module _ (os : List ℕ) (k : ℕ) (e : order_fault os ≡ some k) where
   -- an entry is at fault, or entries are only missing
@@ -209,7 +188,7 @@ module _ (os : List ℕ) (k : ℕ) (e : order_fault os ≡ some k) where
     where
       last : Located (faulty os) (length os) none → (b : Bool) → ltb (length os) places ≡ b → pick b (some (length os)) none ≡ some k → Which
       last r true h f = let s : length os ≡ k = cc in end r (sym s) (omega (arith, ltb-true (length os) places h))
-      last r false h f = let z : ◌≡◌ {A = ℕ} 0 1 = cc in absurd (omega arith)
+      last r false h f = cc
 
       go : (o : Option ℕ) → first_below (length os) (faulty os) ≡ o → Which
       go (some m) f = let s : m ≡ k = cc (by_entry os (length os) m (omega arith) f) in entry (rw s at (located_at (faulty os) (length os) (some m) f))
@@ -240,17 +219,17 @@ module _ (os : List ℕ) (k : ℕ) (e : order_fault os ≡ some k) where
           (m.0, l, sym (get_or-take k os m.0 0 l) ∙ m.2)
 
       go : Which → (places ≤ get_or os k 0) ⊎ ((j : ℕ) × (j < k) × (get_or os j 0 ≡ get_or os k 0))
-      go (entry f) = ⊎_elim (λ t. inl (leb-true places (get_or os k 0) t)) (λ t. inr (again t)) (either (outside os k) (repeats os k) f.holds)
+      go (entry f) = ⊎_elim (λ t. inl (leb-true places (get_or os k 0) t)) (λ t. inr (again t)) (or_cases (outside os k) (repeats os k) f.holds)
       go (end r s l) = absurd (omega arith)
 
   in_range_lem : (j : ℕ) → j < k → get_or os j 0 < places
-  in_range_lem j h = leb-false places (get_or os j 0) (neither (outside os j) (repeats os j) (sound j h)).0
+  in_range_lem j h = leb-false places (get_or os j 0) (or_parts (outside os j) (repeats os j) (sound j h)).0
 
   unequal : (j i : ℕ) → j < k → i < j → get_or os i 0 ≡ get_or os j 0 → ⊥
   unequal j i h l f =
       let n : length (take j os) ≡ j = length-take-le j os (omega (arith, within_length)) in
       let m : repeats os j ≡ true = rw (get_or-take j os i 0 l ∙ f) at (at_member (take j os) i (omega arith)) in
-      let z : ◌≡◌ {A = ℕ} 0 1 = cc (neither (outside os j) (repeats os j) (sound j h)).1 in omega arith
+      cc (or_parts (outside os j) (repeats os j) (sound j h)).1
 
   only_missing : length os ≤ k → (k ≡ length os) × (k < places)
   only_missing h = go which

@@ -12,7 +12,8 @@ use mathlib.Core.Bool.{Bool, true, false, ◌&&◌, ◌||◌, not}
 use native.Mathlib.Omega.{arith}
 use lib.ListN.{length}
 use lib.Dec.{eqb, ltb}
-use borrow.Author.Tests.{eqb-true, ltb-true}
+use borrow.Author.Tests.{eqb-true, ltb-true, not-true}
+use Rattle.std.proofs.lemmas.Bool.{and_parts}
 use Rattle.refusal.specs.Outcome.{pick, all}
 use Rattle.catalogue.specs.Catalogue.{places}
 use Rattle.catalogue.specs.Sum.{sum}
@@ -26,13 +27,10 @@ pub record First (p : ℕ) (os : List ℕ) : Type 0 where
   pub more : distinct os ≡ true
 
 pub first : (p : ℕ) (os : List ℕ) → distinct (p ∷ os) ≡ true → First p os
-first p os e = go (ltb p places) (member p os) (distinct os) refl refl refl e
-  where
-    go : (a b c : Bool) → ltb p places ≡ a → member p os ≡ b → distinct os ≡ c → (a && (not b && c)) ≡ true → First p os
-    go true false true x y z e = record { below = ltb-true _ _ x; new = y; more = z }
-    go true false false x y z e = let w : ◌≡◌ {A = ℕ} 0 1 = cc in absurd (omega arith)
-    go true true c x y z e = let w : ◌≡◌ {A = ℕ} 0 1 = cc in absurd (omega arith)
-    go false b c x y z e = let w : ◌≡◌ {A = ℕ} 0 1 = cc in absurd (omega arith)
+first p os e =
+    let a = and_parts (ltb p places) (not (member p os) && distinct os) e in
+    let b = and_parts (not (member p os)) (distinct os) a.1 in
+    record { below = ltb-true _ _ a.0; new = not-true _ b.0; more = b.1 }
 
 -- w of the places in an order
 abbrev in_order : (ℕ → ℕ) → List ℕ → ℕ → ℕ

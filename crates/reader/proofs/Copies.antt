@@ -35,7 +35,7 @@ step_kept l k id v q e m = stepped l k id v e (λ h i. rw (← i) m) λ h n x y 
 
 parse_kept : (f : ℕ) (l k : Values) (bs : List ℕ) (q : ℕ) → parse_in f l bs ≡ accepted k → is_some (l q) ≡ true → is_some (k q) ≡ true
 parse_kept zero l k [] q e m = let i : l ≡ k = cc in rw (← i) m
-parse_kept zero l k (b ∷ bs) q e m = let z : ◌≡◌ {A = ℕ} 0 1 = cc in absurd (omega arith)
+parse_kept zero l k (b ∷ bs) q e m = cc
 parse_kept (suc f) l k [] q e m = let i : l ≡ k = cc in rw (← i) m
 parse_kept (suc f) l k (b ∷ bs) q e m =
     let ih = parse_kept f in
@@ -94,4 +94,4 @@ module _ (a w b u more : List ℕ) (c : Repeated a w b u) where
   never_twice s r k =
       let e = accepts s (a ++ (w ++ (b ++ (u ++ more)))) r k in
       inverted (parse no_values (a ++ (w ++ b))) (λ l. refused SecondCopy) e.values (sym copied ∙ e.was)
-      λ l f g. let z : ◌≡◌ {A = ℕ} 0 1 = cc in absurd (omega arith)
+      λ l f g. cc

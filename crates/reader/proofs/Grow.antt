@@ -53,7 +53,7 @@ step_good l l' id v g hb e =
 
 grow : (f : ℕ) (l l' : Values) (bs : List ℕ) → Good l → Bytes bs → parse_in f l bs ≡ accepted l' → Good l' × (total l' ≤ total l + length bs)
 grow zero l l' [] g hb e = let i : l ≡ l' = cc in rw (← i) (g, omega arith)
-grow zero l l' (b ∷ bs) g hb e = let z : ◌≡◌ {A = ℕ} 0 1 = cc in absurd (omega arith)
+grow zero l l' (b ∷ bs) g hb e = cc
 grow (suc f) l l' [] g hb e = let i : l ≡ l' = cc in rw (← i) (g, omega arith)
 grow (suc f) l l' (b ∷ bs) g hb e =
     let ih = grow f in

@@ -38,16 +38,16 @@ pub no_number : (p : ℕ) (k : Kind) → kind_at p ≡ k → (k ≡ number → �
 no_number p k e n q = n (sym e ∙ q)
 
 pub flag_no : flag ≡ number → ⊥
-flag_no e = let z : ◌≡◌ {A = ℕ} 0 1 = cc in omega arith
+flag_no e = cc
 
 pub cid_no : cid ≡ number → ⊥
-cid_no e = let z : ◌≡◌ {A = ℕ} 0 1 = cc in omega arith
+cid_no e = cc
 
 pub token_no : token ≡ number → ⊥
-token_no e = let z : ◌≡◌ {A = ℕ} 0 1 = cc in omega arith
+token_no e = cc
 
 pub address_no : address ≡ number → ⊥
-address_no e = let z : ◌≡◌ {A = ℕ} 0 1 = cc in omega arith
+address_no e = cc
 
 -- the value at a place that holds no number fits
 pub kept_fits : (k : Kind) (s : List ℕ) (f : Found) → Sound s f → (p : ℕ) → kind_at p ≡ k → (k ≡ number → ⊥) → FitsIfAny k (value_at s f p)
@@ -181,7 +181,7 @@ kept_good side s f hb e p n =
         subst (IfSome (Fits (kind_at p))) (a.value_at p n) ((grown l s hb k).0 p)
     go (accepted g) (refused x) r h k = absurd r
     go (refused y) (accepted l) r h k = absurd r
-    go (refused y) (refused x) r h k = let z : ◌≡◌ {A = ℕ} 0 1 = cc in absurd (omega arith)
+    go (refused y) (refused x) r h k = cc
 
 pub read_recorded : (side : Side) (s : List ℕ) (f : Found) → indexed side s ≡ accepted f → read side s ≡ accepted (record_from s f)
 read_recorded side s f h = read_indexed side s ∙ rw h

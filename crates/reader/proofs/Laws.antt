@@ -12,7 +12,6 @@ use Prim.Native.Nat.{ℕ, zero, suc}
 use mathlib.Core.Path.{◌≡◌, refl, ap, ap₂, sym, ◌∙◌, fun_ext}
 use mathlib.Core.List.{List, [], ◌∷◌, ◌++◌, append_assoc}
 use mathlib.Core.Bool.{true}
-use native.Mathlib.Omega.{arith}
 use lib.ListN.{length}
 use Rattle.refusal.specs.Outcome.{Result, accepted, refused, and_then, all}
 use Rattle.refusal.proofs.Laws.{inverted, picked}
@@ -67,7 +66,7 @@ pub record Accepted (s : Side) (bs : List ℕ) (r : TransportParameters) : Type 
 
 numbered_accepted : {A : Type 0} (o : Result Fault A) (a : A) → numbered o ≡ accepted a → o ≡ accepted a
 numbered_accepted (accepted b) a e = cc
-numbered_accepted (refused f) a e = let z : ◌≡◌ {A = ℕ} 0 1 = cc in absurd (omega arith)
+numbered_accepted (refused f) a e = cc
 
 pub accepts : (s : Side) (bs : List ℕ) (r : TransportParameters) → read s bs ≡ accepted r → Accepted s bs r
 unfolding read judge
@@ -99,7 +98,7 @@ same_record s s' bs r r' e e' =
 -- WHOLE PARAMETERS of what is accepted
 parsed_whole : (f : ℕ) (l m : Values) (bs : List ℕ) → parse_in f l bs ≡ accepted m → Composed bs
 parsed_whole zero l m [] e = record { ws = []; is = refl; each = tt }
-parsed_whole zero l m (b ∷ bs) e = let z : ◌≡◌ {A = ℕ} 0 1 = cc in absurd (omega arith)
+parsed_whole zero l m (b ∷ bs) e = cc
 parsed_whole (suc f) l m [] e = record { ws = []; is = refl; each = tt }
 parsed_whole (suc f) l m (b ∷ bs) e =
     let ih = parsed_whole f in
@@ -116,9 +115,9 @@ whole s e r k = let a = accepts s e r k in parsed_whole (length e) no_values a.v
 pub once : (ws us : List (List ℕ)) → Wholes ws → Wholes us → concat ws ≡ concat us → ws ≡ us
 once [] [] h g e = refl
 once [] ([] ∷ us) h g e = absurd (not_empty g.0)
-once [] ((b ∷ u) ∷ us) h g e = let z : ◌≡◌ {A = ℕ} 0 1 = cc in absurd (omega arith)
+once [] ((b ∷ u) ∷ us) h g e = cc
 once ([] ∷ ws) [] h g e = absurd (not_empty h.0)
-once ((b ∷ w) ∷ ws) [] h g e = let z : ◌≡◌ {A = ℕ} 0 1 = cc in absurd (omega arith)
+once ((b ∷ w) ∷ ws) [] h g e = cc
 once (w ∷ ws) (u ∷ us) h g e =
     let ih = once ws us h.1 g.1 in
     same_front w u (concat ws) (concat us) h.0 g.0 e λ p q. ap₂ ◌∷◌ p (ih q)

@@ -5,5 +5,6 @@ pub mod Laws
 pub mod Copies
 pub mod Rearranged
 pub mod Built
+pub mod Given
 pub mod Agree
 pub mod Indexed

@@ -12,7 +12,6 @@ use mathlib.Core.Bool.{true, false}
 use mathlib.Core.Logic.{∥∥₁_elim, ∥∥₁_map}
 use mathlib.Core.HLevel.{Π_set, ⊥_prop}
 use native.Mathlib.Nat.{ℕ_set}
-use native.Mathlib.Omega.{arith}
 use borrow.Author.Tests.{ne_eqb}
 use Rattle.refusal.specs.Outcome.{Result, accepted, refused, Outcome, and_then}
 use Rattle.refusal.proofs.Laws.{inverted}
@@ -35,7 +34,7 @@ upd_comm l p q x y n = upd_at (upd l p x) (upd (upd l q y) p x) q y (upd_there (
 
 -- a place that is free differs from one that was just filled
 apart : (l : Values) (p q : ℕ) (v : List ℕ) → is_some (upd l p (some v) q) ≡ false → q ≡ p → ⊥
-apart l p q v n s = let z : is_some (upd l p (some v) q) ≡ true = rw (s, upd_here l p (some v)) in let o : ◌≡◌ {A = ℕ} 0 1 = cc in omega arith
+apart l p q v n s = let z : is_some (upd l p (some v) q) ≡ true = rw (s, upd_here l p (some v)) in cc
 
 -- two parameters that were accepted may change places
 exchanged : (l m : Values) (i j : ℕ) (v w : List ℕ) → and_then (step l i v) (λ k. step k j w) ≡ accepted m → and_then (step l j w) (λ k. step k i v) ≡ accepted m
@@ -81,7 +80,7 @@ any_order {ws} {us} d h l m e = go (parse l (concat us)) (∥∥₁_map d (λ d.
   where
     go : (o : Result Fault Values) → ∥ o ≡ accepted m ∥₁ → o ≡ accepted m
     go (accepted k) t = ap accepted (∥∥₁_elim t (Values-set k m) λ e. cc)
-    go (refused f) t = absurd (∥∥₁_elim t ⊥_prop λ e. let z : ◌≡◌ {A = ℕ} 0 1 = cc in omega arith)
+    go (refused f) t = absurd (∥∥₁_elim t ⊥_prop λ e. cc)
 
 -- EXTENSIONS
 pub rearranged : (s : Side) (e e' : List ℕ) (r : TransportParameters) → Rearranged e e' → read s e ≡ accepted r → read s e' ≡ accepted r
@@ -108,5 +107,4 @@ refused_too s e e' n i k = go (read s e') refl
     go (accepted r) q =
         absurd (∥∥₁_elim i.moved ⊥_prop λ d.
         let x : read s e ≡ accepted r = rearranged s e' e r (back d) q in
-        let z : ◌≡◌ {A = ℕ} 0 1 = cc in
-        omega arith)
+        cc)

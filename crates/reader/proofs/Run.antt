@@ -81,9 +81,9 @@ stepped {P} l k id v e skip keep = go (ltb (place_of id) places) refl e
     at : (a b c : Bool) → place_of id < places → is_some (l (place_of id)) ≡ a → illegal (kind_at (place_of id)) v ≡ b → fits (kind_at (place_of id)) v ≡ c
         → pick {A = Result Fault Values} a (refused SecondCopy) (pick b (refused Illegal) (pick c (accepted (upd l (place_of id) (some v))) (refused Misfit))) ≡ accepted k → P
     at false false true h x y z e = keep h x y z (cc)
-    at false false false h x y z e = let w : ◌≡◌ {A = ℕ} 0 1 = cc in absurd (omega arith)
-    at false true c h x y z e = let w : ◌≡◌ {A = ℕ} 0 1 = cc in absurd (omega arith)
-    at true b c h x y z e = let w : ◌≡◌ {A = ℕ} 0 1 = cc in absurd (omega arith)
+    at false false false h x y z e = cc
+    at false true c h x y z e = cc
+    at true b c h x y z e = cc
 
     go : (b : Bool) → ltb (place_of id) places ≡ b → pick {A = Result Fault Values} b (receive l (place_of id) v) (accepted l) ≡ accepted k → P
     go true h e = at (is_some (l (place_of id))) (illegal (kind_at (place_of id)) v) (fits (kind_at (place_of id)) v) (ltb-true _ _ h) refl refl refl e

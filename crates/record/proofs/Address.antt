@@ -1,19 +1,20 @@
 -- The laws of a preferred address, named as in KindLaws.antt. Assumes nothing.
 --     families_formed      an address that is read offers a family, and offers none that is all zero with port 0
-use Prim.Native.Nat.{ℕ, ◌+◌, ◌*◌, ◌/◌, ◌%◌, ◌^◌, ◌≤◌, ◌<◌}
+use Prim.Native.Nat.{ℕ, ◌+◌, ◌≤◌, ◌<◌}
 use mathlib.Core.Path.{◌≡◌, refl, ap, sym, ◌∙◌}
 use mathlib.Core.List.{List, [], ◌∷◌, ◌++◌, append_assoc}
 use mathlib.Core.Option.{Option, none, some}
-use mathlib.Core.Bool.{Bool, true, false, ◌&&◌, ◌||◌, not, and-true}
+use mathlib.Core.Bool.{Bool, true, false, ◌&&◌, ◌||◌, not, and-true, not-or_self}
 use native.Mathlib.Omega.{arith}
 use native.Mathlib.Nat.{le_of_eq}
 use lib.ListN.{length, get_or, take, drop, replicate, length-append, length-drop, take-append-drop}
 use lib.Seq.{length-take-le, take_at, drop_at, get_or_at, drop-drop, drop-cons, take-add}
 use lib.Dec.{eqb}
-use borrow.Author.Tests.{le-leb, leb-true, lt-ltb, ltb-true, eq-eqb, eqb-true, eqb-false}
+use borrow.Author.Tests.{le-leb, leb-true, lt-ltb, ltb-true, eq-eqb, eqb-true}
+use Rattle.std.proofs.lemmas.Bool.Decides.{nat_tests}
 use Rattle.refusal.specs.Outcome.{pick, all}
 use Rattle.refusal.proofs.Laws.{all_at}
-use Rattle.words.proofs.Big.{length_bytes_of, value_bytes_of}
+use Rattle.words.proofs.Big.{length_bytes_of, value_bytes_of, bytes_value, value_lt}
 use Rattle.words.specs.Words.{zeros, value_from, bytes_of}
 use Rattle.connection_id.specs.ConnectionId.{cid_of, cid_bytes, formed_cid}
 use Rattle.words.proofs.Laws.{zeros_are, zeros_append}
@@ -30,31 +31,13 @@ two_back : (p : ℕ) → p < 65536 → value_from 0 (bytes_of 2 p) ≡ p
 two_back p h = value_bytes_of 2 0 p ∙ omega arith
 
 two_same : (t : List ℕ) → length t ≡ 2 → Bytes t → bytes_of 2 (value_from 0 t) ≡ t
-two_same [] h b = absurd (omega arith)
-two_same (x ∷ []) h b = absurd (omega arith)
-two_same (x ∷ y ∷ []) h b =
-    let p : ((0 * 256 + x) * 256 + y) / 256 ^ 1 % 256 ≡ x = omega (arith, b 0, b 1) in
-    let q : ((0 * 256 + x) * 256 + y) / 256 ^ 0 % 256 ≡ y = omega (arith, b 0, b 1) in
-    rw (p, q)
-two_same (x ∷ y ∷ z ∷ t) h b = absurd (omega arith)
+two_same t h b = rw h at (bytes_value t 0 b)
 
 two_lt : (t : List ℕ) → length t ≡ 2 → Bytes t → value_from 0 t < 65536
-two_lt [] h b = absurd (omega arith)
-two_lt (x ∷ []) h b = absurd (omega arith)
-two_lt (x ∷ y ∷ []) h b = omega (arith, b 0, b 1)
-two_lt (x ∷ y ∷ z ∷ t) h b = absurd (omega arith)
+two_lt t h b = let l = rw h at (value_lt t 0 1 b (omega arith)) in omega arith
 
 two_zeros : (p : ℕ) → p < 65536 → zeros (bytes_of 2 p) ≡ eqb p 0
-two_zeros p h = go (eqb p 0) refl
-  where
-    go : (t : Bool) → eqb p 0 ≡ t → zeros (bytes_of 2 p) ≡ t
-    go true e = rw (eqb-true p 0 e)
-    go false e = at (eqb (p / 256 ^ 1 % 256) 0) (eqb (p / 256 ^ 0 % 256) 0) refl refl
-      where
-        at : (a b : Bool) → eqb (p / 256 ^ 1 % 256) 0 ≡ a → eqb (p / 256 ^ 0 % 256) 0 ≡ b → (a && (b && true)) ≡ false
-        at true true x y = absurd (eqb-false p 0 e (omega (arith, eqb-true (p / 256 ^ 1 % 256) 0 x, eqb-true (p / 256 ^ 0 % 256) 0 y)))
-        at true false x y = refl
-        at false b x y = refl
+two_zeros p h = grind (arith, nat_tests)
 
 -- a family: n bytes of address and a port
 fam_zeros : (f : Family) → f.2 < 65536 → zeros (family_out f) ≡ unspecified f
@@ -62,22 +45,10 @@ unfolding family_out
 fam_zeros f h = zeros_append f.1 (bytes_of 2 f.2) ∙ rw (two_zeros f.2 h)
 
 marks : (b z : Bool) → (b || z) ≡ true → (not b || not z) ≡ true → not z ≡ b
-marks true true h k = k
-marks true false h k = refl
-marks false true h k = refl
-marks false false h k = sym h
-
-excluded : (z : Bool) → (not z || z) ≡ true
-excluded true = refl
-excluded false = refl
-
-excluded' : (z : Bool) → (not (not z) || not z) ≡ true
-excluded' true = refl
-excluded' false = refl
+marks b z h k = grind (arith, nat_tests)
 
 filled : (b z : Bool) → (b || z) ≡ true → not b ≡ true → z ≡ true
-filled true z h k = let w : ◌≡◌ {A = ℕ} 0 1 = cc in absurd (omega arith)
-filled false z h k = h
+filled b z h k = grind (arith, nat_tests)
 
 -- as it is read
 module _ (n : ℕ) (x : List ℕ) (e : length x ≡ n + 2) (b : Bytes x) where
@@ -97,7 +68,7 @@ module _ (n : ℕ) (x : List ℕ) (e : length x ≡ n + 2) (b : Bytes x) where
 
   fam_formed : formed_family n (family_in n x) ≡ true
   unfolding formed_family family_in all
-  fam_formed = rw (fam_empty, eq-eqb _ _ (length-take-le n x (omega arith)), lt-ltb _ _ fam_lt, excluded)
+  fam_formed = rw (fam_empty, eq-eqb _ _ (length-take-le n x (omega arith)), lt-ltb _ _ fam_lt, not-or_self)
 
 -- as a record has it
 module _ (n : ℕ) (f : Family) (h : formed_family n f ≡ true) where
@@ -205,9 +176,7 @@ address_back a h k = go a.present refl
         rw (fam_absent 4 (of_v4 a.address_v4) (all_at _ h 0) (z 0), fam_absent 16 (of_v6 a.address_v6) (all_at _ h 1) (z 1), cid_none a.connection_id (all_at _ h 2) n, ← t, ← e)
 
 one_family : (a b : Bool) → (not a || not b) ≡ true → (a && b) ≡ false
-one_family true true h = sym h
-one_family true false h = refl
-one_family false b h = refl
+one_family a b h = grind (arith, nat_tests)
 
 address_sound : (v x y : List ℕ) (n : ℕ) (c t : List ℕ) → Parts v x y n c t → n ≤ 20 → {F : Type 0} → (F → (not (zeros x) || not (zeros y)) ≡ true) → Sound F address v
 unfolding illegal fits all widest
@@ -301,12 +270,10 @@ address_formed (some v) f = read_parts v f λ x y n c t p. ap formed_address (re
 built_family : (v x y : List ℕ) (n : ℕ) (c t : List ℕ) → Read v x y n c t → family_rules (built x y c t) ≡ true
 unfolding family_rules built all family_in
 built_family v x y n c t p =
-    rw (← fam_empty 4 x p.hx p.bx, ← fam_empty 16 y p.hy p.by, excluded' (zeros x), excluded' (zeros y)) (some_family (zeros x) (zeros y) p.family)
+    rw (← fam_empty 4 x p.hx p.bx, ← fam_empty 16 y p.hy p.by, not-or_self (not (zeros x)), not-or_self (not (zeros y))) (some_family (zeros x) (zeros y) p.family)
   where
     some_family : (a b : Bool) → (a && b) ≡ false → ((not a || not b) && true) ≡ true
-    some_family true true h = sym h
-    some_family true false h = refl
-    some_family false b h = refl
+    some_family a b h = grind (arith, nat_tests)
 
 pub families_formed : (o : Option (List ℕ)) → IfSome (Fits address) o → family_rules (address_in o) ≡ true
 unfolding family_rules address_in all family_in

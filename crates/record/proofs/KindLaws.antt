@@ -86,7 +86,7 @@ filled v (accepted a) e hb f =
     let b = read_bounds v a.0 a.1 hb e in
     let q : a.1 ≡ length v = eqb-true a.1 (length v) f in
     (b.0, omega arith)
-filled v (refused n) e hb f = let z : ◌≡◌ {A = ℕ} 0 1 = cc in absurd (omega arith)
+filled v (refused n) e hb f = cc
 
 number_fits : (v : List ℕ) → Fits number v
     → (value (read_number v) < 2 ^ 62) × (length (number_bytes (value (read_number v))) ≤ length v)

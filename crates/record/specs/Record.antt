@@ -1,5 +1,5 @@
 -- Records: well formed; what else a preferred address must be; with a part replaced, and so without order and reserved parameter.
-use Rattle.std.specs.Prelude.{ℕ, ◌%◌, [], ◌∷◌, Bool, true, false, ◌&&◌, ◌||◌, not, length, drop, ltb, leb, eqb}
+use Rattle.std.specs.Prelude.{ℕ, ◌%◌, [], ◌∷◌, Bool, true, ◌&&◌, ◌||◌, not, length, drop, ltb, leb, eqb}
 use Rattle.refusal.specs.Outcome.{pick, all}
 use Rattle.catalogue.specs.Catalogue.{places}
 use Rattle.varint.specs.Number.{bound}

@@ -6,7 +6,7 @@ ghost use Rattle.refusal.specs.Outcome.{pick};
 ghost use Rattle.words.specs.Words.{every};
 ghost use Rattle.varint.specs.Number.{bound};
 ghost use Rattle.record.specs.Record.{unspecified, formed_optional, formed_optional_cid, formed_optional_token, formed_family, formed_address, formed_reserved, formed_order, well_formed, default_record};
-ghost use Rattle.record.specs.Values.{of_address, absent_address};
+ghost use Rattle.record.specs.Values.{of_address};
 
 use catalogue::{NUMBERS, PLACES};
 use connection_id::ConnectionId;
@@ -26,8 +26,9 @@ pub struct ResetToken {
     pub bytes: [u8; 16],
 }
 
-// An address of `N` bytes and a port, of one of the two families.
-#[derive(Clone, Copy, Debug, PartialEq, Eq)]
+// An address of `N` bytes and a port, of one of the two families. Here and in the next three `present` stands among the fields: with an `Optional` of
+// each a port would be `preferred_address.value.address_v4.value.port`, which is no plainer.
+#[derive(Clone, Copy, Debug, Default, PartialEq, Eq)]
 pub struct SocketAddr<const N: usize> {
     pub present: bool,
     pub ip: [u8; N],
@@ -47,7 +48,7 @@ pub struct PreferredAddress {
     pub stateless_reset_token: ResetToken,
 }
 
-// The reserved parameter that is sent so that peers go on skipping unknown ones.
+// The reserved parameter that is sent so that peers go on skipping unknown ones. Fixed memory: the payload is an array with a length, as in the Rust.
 #[derive(Clone, Copy, Debug, Default, PartialEq, Eq)]
 pub struct ReservedTransportParameter {
     pub present: bool,
@@ -81,18 +82,6 @@ pub struct TransportParameters {
     pub write_order: WriteOrder,
 }
 
-impl<const N: usize> Default for SocketAddr<N> {
-    ghost is_default = { λ a. a ≡ absent_address N };
-
-    fn default() -> SocketAddr<N> {
-        SocketAddr {
-            present: false,
-            ip: [0; N],
-            port: 0,
-        }
-    }
-}
-
 impl<const N: usize> SocketAddr<N> {
     // An address of zeros and port 0.
     pub fn is_unspecified(self) -> bool
@@ -110,6 +99,7 @@ impl ReservedTransportParameter {
     pub const MAX_PAYLOAD_LEN: usize = 16;
 }
 
+#[tactic(auto, using(std::proofs::lemmas::Bool::Decides::nat_tests, crate::proofs::Tests::every_drop, crate::proofs::Tests::every_end, crate::proofs::Tests::at_most))]
 fn formed_numbers(n: &[u64; NUMBERS]) -> bool
     ensures { result ≡ every (λ x. ltb x bound) n.now }
 {
@@ -120,30 +110,37 @@ fn formed_numbers(n: &[u64; NUMBERS]) -> bool
     acc <= VarInt::MAX.0
 }
 
+#[tactic(auto, using(std::proofs::lemmas::Bool::Decides::nat_tests, crate::proofs::Tests::optional_below))]
 fn formed_number(o: Option<u64>) -> bool
     ensures { result ≡ formed_optional o }
 {
     o.unwrap_or(0) <= VarInt::MAX.0
 }
 
+#[tactic(auto, using(std::proofs::lemmas::Bool::Decides::nat_tests), unfolding(crate::specs::Record::formed_optional_cid, refusal::specs::Outcome::all))]
 fn formed_cid(o: &Optional<ConnectionId>) -> bool
     ensures { result ≡ formed_optional_cid o.now }
 {
     o.value.is_well_formed() & (o.present | (o.value.len == 0))
 }
 
+// By `zero_from`, which goes by words, as an ID: `all_zero` goes by bytes.
+#[tactic(auto, using(std::proofs::lemmas::Bool::Decides::nat_tests), unfolding(crate::specs::Record::formed_optional_token, crate::specs::Record::formed_token, refusal::specs::Outcome::all))]
 fn formed_token(o: &Optional<ResetToken>) -> bool
     ensures { result ≡ formed_optional_token o.now }
 {
     o.present | zero_from(&o.value.bytes, 0)
 }
 
+// Tried by `is_unspecified`: the proof did not close, since only a reading of the port tells its range.
+#[tactic(auto, using(std::proofs::lemmas::Bool::Decides::nat_tests), unfolding(crate::specs::Record::formed_family, refusal::specs::Outcome::all))]
 fn formed_family<const N: usize>(a: &SocketAddr<N>) -> bool
     ensures { result ≡ formed_family N (of_address a.now) }
 {
     a.present | (all_zero(&a.ip) & (a.port == 0))
 }
 
+#[tactic(auto, using(std::proofs::lemmas::Bool::Decides::nat_tests, crate::proofs::Tests::at_most), unfolding(crate::specs::Record::formed_reserved, refusal::specs::Outcome::all))]
 fn formed_reserved(x: &ReservedTransportParameter) -> bool
     ensures { result ≡ formed_reserved x.now }
 {
@@ -165,12 +162,14 @@ fn reserved_head(present: bool, id: u64, len: u8) -> bool
     }
 }
 
+#[tactic(auto, using(std::proofs::lemmas::Bool::Decides::nat_tests), unfolding(crate::specs::Record::formed_order, refusal::specs::Outcome::all))]
 fn formed_order(w: &WriteOrder) -> bool
     ensures { result ≡ formed_order w.now }
 {
     w.present | all_zero(&w.places)
 }
 
+#[tactic(auto, using(std::proofs::lemmas::Bool::Decides::nat_tests, crate::proofs::Tests::address_formed))]
 fn formed_address(a: &PreferredAddress) -> bool
     ensures { result ≡ formed_address a.now }
 {
@@ -188,6 +187,7 @@ fn formed_address(a: &PreferredAddress) -> bool
 impl Default for TransportParameters {
     ghost is_default = { λ r. r ≡ default_record };
 
+    #[tactic(auto, using(crate::proofs::Defaults::order_absent, crate::proofs::Defaults::reserved_absent, crate::proofs::Defaults::token_absent, crate::proofs::Defaults::cid_absent, crate::proofs::Defaults::address_absent), unfolding(catalogue::specs::Catalogue::defaults, crate::specs::Values::no_values, crate::specs::Values::number_in, crate::specs::Values::optional_in, crate::specs::Values::record_of))]
     fn default() -> TransportParameters {
         TransportParameters {
             numbers: catalogue::DEFAULTS,
@@ -207,6 +207,7 @@ impl Default for TransportParameters {
 }
 
 impl TransportParameters {
+    #[tactic(auto, using(std::proofs::lemmas::Bool::Decides::nat_tests), unfolding(crate::specs::Record::well_formed, refusal::specs::Outcome::all))]
     pub fn is_well_formed(self) -> bool
         ensures { result ≡ well_formed self }
     {

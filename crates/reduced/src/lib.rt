@@ -46,7 +46,7 @@ fn limit_in(row: Row, image: &[u8]) -> Limit {
 }
 
 impl Limit {
-    // Less is reduced: what is absent is as little as 0, and a flag that is set is more than one that is not.
+    // Less is reduced: what is absent is as little as 0, and a flag that is set is more than one that is not. By a derived order it would be less than 0.
     fn size(self) -> u64 {
         match self {
             Limit::Absent => 0,

@@ -8,21 +8,21 @@ use Prim.Native.Nat.{ℕ, zero, suc}
 use mathlib.Core.Path.{◌≡◌, refl, ap}
 use mathlib.Core.List.{List, [], ◌∷◌}
 use mathlib.Core.Bool.{Bool, true, false}
-use native.Mathlib.Omega.{arith}
 use lib.ListN.{get_or}
 use Rattle.std.specs.Prelude.{Result as Answer, Ok, Err}
 use Rattle.std.specs.Result.{IsErrAnd}
+use Rattle.std.proofs.lemmas.Bool.{and_parts}
 use Rattle.refusal.specs.Outcome.{Result, accepted, refused, pick, and_then, all}
 
 pub inverted : {E A B P : Type 0} (o : Result E A) (f : A → Result E B) (b : B) → and_then o f ≡ accepted b
     → ((a : A) → o ≡ accepted a → f a ≡ accepted b → P) → P
 inverted (accepted a) f b e k = k a refl e
-inverted (refused n) f b e k = let z : ◌≡◌ {A = ℕ} 0 1 = cc in absurd (omega arith)
+inverted (refused n) f b e k = cc
 
 pub picked : {E A P : Type 0} (t : Bool) (a b : A) (n : E) → pick {A = Result E A} t (accepted a) (refused n) ≡ accepted b
     → (t ≡ true → a ≡ b → P) → P
 picked true a b n e k = k refl (cc)
-picked false a b n e k = let z : ◌≡◌ {A = ℕ} 0 1 = cc in absurd (omega arith)
+picked false a b n e k = cc
 
 pub pick_cases : {A : Type 0} (P : A → Type 0) (t : Bool) (a b : A) → (t ≡ true → P a) → (t ≡ false → P b) → P (pick t a b)
 pick_cases P true a b f g = f refl
@@ -31,9 +31,8 @@ pick_cases P false a b f g = g refl
 pub all_at : (l : List Bool) → all l ≡ true → (i : ℕ) → get_or l i true ≡ true
 unfolding all
 all_at [] e i = refl
-all_at (true ∷ l) e zero = refl
-all_at (true ∷ l) e (suc i) = all_at l e i
-all_at (false ∷ l) e i = let z : ◌≡◌ {A = ℕ} 0 1 = cc in absurd (omega arith)
+all_at (b ∷ l) e zero = (and_parts b (all l) e).0
+all_at (b ∷ l) e (suc i) = all_at l (and_parts b (all l) e).1 i
 
 pub raised : {A E : Type 0} (r : Answer A E) (e : E) → IsErrAnd r (λ d. d ≡ e) → r ≡ Err e
 raised (Err d) e h = ap Err h

@@ -24,9 +24,7 @@ Answered = Outcome ℕ × List ℕ
 
 pub not_refused : {P : Type 0} (m n : ℕ) (o o' : List ℕ) → ◌≡◌ {A = Answered} (accepted n, o) (refused m, o') → P
 not_refused m n o o' e =
-    let p : ◌≡◌ {A = Outcome ℕ} (accepted n) (refused m) = ap (λ (a : Answered). a.0) e in
-    let z : ◌≡◌ {A = ℕ} 0 1 = cc in
-    absurd (omega arith)
+    let p : ◌≡◌ {A = Outcome ℕ} (accepted n) (refused m) = ap (λ (a : Answered). a.0) e in cc
 
 pub refused_same : (m n : ℕ) (o o' : List ℕ) → ◌≡◌ {A = Answered} (refused m, o) (refused n, o') → m ≡ n
 refused_same m n o o' e = let p : ◌≡◌ {A = Outcome ℕ} (refused m) (refused n) = ap (λ (a : Answered). a.0) e in cc

@@ -31,7 +31,7 @@ pub enum Refusal {
 }
 
 impl Refusal {
-    // The number that the refusal carries.
+    // The number that the refusal carries. A method and no `From`, so that the caller's line says which of a byte's meanings this is.
     pub fn number(self) -> u8
         ensures { result ≡ number_of self }
     {

@@ -39,13 +39,13 @@ struct Head {
     number_due: u64,
 }
 
-// The number of eight bytes from `at` on, high byte first; 0 where there are none.
+// The number of eight or of two bytes from `at` on, high byte first; 0 where there are none.
 fn eight(b: &[u8], at: usize) -> u64 {
     u64::from_be_bytes(bytes_at(b, at))
 }
 
-fn two(high: u8, low: u8) -> usize {
-    usize::from(u16::from_be_bytes([high, low]))
+fn two(b: &[u8], at: usize) -> usize {
+    usize::from(u16::from_be_bytes(bytes_at(b, at)))
 }
 
 // None if there is no such operation. No TryFrom: its error had nothing to carry.
@@ -54,12 +54,12 @@ fn head_of(b: &[u8; 32]) -> Option<Head> {
     Some(Head {
         operation,
         code: b[1],
-        x: two(b[2], b[3]),
-        y: two(b[4], b[5]),
-        z: two(b[6], b[7]),
-        w: two(b[8], b[9]),
-        due: two(b[10], b[11]),
-        room: two(b[12], b[13]),
+        x: two(b, 2),
+        y: two(b, 4),
+        z: two(b, 6),
+        w: two(b, 8),
+        due: two(b, 10),
+        room: two(b, 12),
         number: eight(b, 16),
         number_due: eight(b, 24),
     })

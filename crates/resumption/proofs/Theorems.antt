@@ -23,9 +23,6 @@ use Rattle.resumption.specs.Resumption.{remembered, limits_kept, size_rank, noth
 use Rattle.resumption.specs.AbsentAsZero.{sized, AbsentAsZero}
 
 -- orders of numbers, as tests
-leb_refl : (n : ℕ) → leb n n ≡ true
-leb_refl n = le-leb n n (le_refl n)
-
 leb_trans : (a b c : ℕ) → leb a b ≡ true → leb b c ≡ true → leb a c ≡ true
 leb_trans a b c h k = grind (arith, nat_tests)
 
@@ -35,7 +32,7 @@ not_or_trans a b c h k = grind (arith, nat_tests)
 -- nothing is reduced
 limits_itself : (a : List ℕ) → limits_kept a a ≡ true
 unfolding limits_kept
-limits_itself a = every_of (λ p. leb (get_or a p 0) (get_or a p 0)) remembered (λ p k. leb_refl _)
+limits_itself a = every_of (λ p. leb (get_or a p 0) (get_or a p 0)) remembered (λ p k. le-leb _ _ (le_refl _))
 
 limits_through : (a b c : List ℕ) → limits_kept b a ≡ true → limits_kept c b ≡ true → limits_kept c a ≡ true
 unfolding limits_kept
@@ -45,7 +42,7 @@ limits_through a b c s t =
 
 kept_itself : (r : TransportParameters) → nothing_reduced r r ≡ true
 unfolding nothing_reduced all
-kept_itself r = rw (limits_itself r.numbers, leb_refl (size_rank r.max_datagram_frame_size), not-or_self r.grease_quic_bit)
+kept_itself r = rw (limits_itself r.numbers, le-leb _ _ (le_refl (size_rank r.max_datagram_frame_size)), not-or_self r.grease_quic_bit)
 
 record Kept (new cached : TransportParameters) : Type 0 where
   limits : limits_kept new.numbers cached.numbers ≡ true
@@ -82,9 +79,9 @@ resumed new cached h = go (well_formed new) (well_formed cached) (nothing_reduce
     go : (s t u : Bool) → well_formed new ≡ s → well_formed cached ≡ t → nothing_reduced new cached ≡ u
         → pick {A = Outcome (Unit {0})} (s && t) (pick u (accepted tt) (refused 8)) (refused 7) ≡ accepted tt → Resumes new cached
     go true true true p q r h = record { formed = p; formed_before = q; kept = r }
-    go true true false p q r h = absurd (cc)
-    go true false u p q r h = absurd (cc)
-    go false t u p q r h = absurd (cc)
+    go true true false p q r h = cc
+    go true false u p q r h = cc
+    go false t u p q r h = cc
 
 pub resumes_itself : (r : TransportParameters) → well_formed r ≡ true → resume r r ≡ accepted tt
 resumes_itself r h = resumes r r (record { formed = h; formed_before = h; kept = kept_itself r })

@@ -30,7 +30,8 @@ pub struct Microseconds(pub u64);
 pub struct Milliseconds(pub u64);
 
 impl Milliseconds {
-    // Whether a time in microseconds is no longer than this one. Whatever does not fit is longer than any.
+    // Whether a time in microseconds is no longer than this one, which is longer than any if it does not fit. No `From` and `<=`: a conversion that
+    // saturates is none.
     pub fn covers(self, shorter: Microseconds) -> bool
         ensures { result ≡ leb shorter.0 (1000 * self.0) }
     {
@@ -39,6 +40,7 @@ impl Milliseconds {
 }
 
 // What the value rules ask of a record, but for its numbers: which of these are present, and the length of the preferred address's ID.
+// No Option for address and length: it has no room for a length beside an absent address, of which the definition speaks.
 #[derive(Clone, Copy, Debug, PartialEq, Eq)]
 pub struct Presence {
     pub original: bool,
@@ -68,13 +70,7 @@ pub fn presence_allowed(side: Side, p: Presence) -> bool
     ensures { result ≡ presence_rules (is_server side) p.original p.address p.retry p.token p.id_len }
 {
     let server_only = p.original | p.address | p.retry | p.token;
-    !(is_server(side) & server_only) & !(p.address & (p.id_len == 0))
-}
-
-fn is_server(side: Side) -> bool
-    ensures { result ≡ is_server side }
-{
-    side == Side::Server
+    !((side == Side::Server) & server_only) & !(p.address & (p.id_len == 0))
 }
 
 // A preferred address has a family, and none present is unspecified.

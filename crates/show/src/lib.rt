@@ -30,7 +30,7 @@ impl<'a> Display for ConnectionId<'a> {
         match self.0.split_first() {
             None | Some((0, _)) => write!(f, "(empty)"),
             Some((n, rest)) => {
-                let digits = HexBytes(part(rest, 0, *n as usize));
+                let digits = HexBytes(part(rest, 0, usize::from(*n)));
                 write!(f, "{digits}")
             }
         }
@@ -51,7 +51,7 @@ impl<'a> Display for V4<'a> {
     }
 }
 
-// An IPv6 address.
+// An IPv6 address. Two types and no generic one: the parts, what stands between them and their digits differ.
 #[derive(Clone, Copy)]
 struct V6<'a>(&'a [u8]);
 

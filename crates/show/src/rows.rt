@@ -1,9 +1,9 @@
 // The rows of a record's text form: the places of the catalogue, the parts of a preferred address, and the order; their names, what each holds, and
 // where it stands in the image of a record.
-ghost use Rattle.std.specs.Prelude.{◌≡◌, ◌<◌, IfSome};
+ghost use Rattle.std.specs.Prelude.{◌≡◌, ◌<◌, ◌++◌, [], map, IfSome};
 ghost use Rattle.std.specs.List.{slice_index_or};
 
-use catalogue::NAMES;
+use catalogue::{NAMES, PLACES};
 use std::fmt;
 use std::fmt::Display;
 
@@ -64,7 +64,7 @@ impl Row {
     pub fn value_at(self) -> usize
         ensures { (result ≡ self.1) × (result < 65536) }
     {
-        self.1 as usize
+        usize::from(self.1)
     }
 
     // Where its flag stands, if it may be absent: before its value, but the ID and the token of an address have the address's.
@@ -119,24 +119,25 @@ const PART_NAMES: [&str; 5] = [
     "order",
 ];
 
-// The name of row `i`.
-pub fn name_of(i: usize) -> &'static str {
-    NAMES
-        .iter()
-        .chain(PART_NAMES.iter())
-        .nth(i)
-        .copied()
-        .unwrap_or("")
+// The name of row `i`; empty if there is none.
+pub fn name_of(i: usize) -> &'static str
+    ensures { result.now ≡ slice_index_or (map (λ name. name.now) (NAMES ++ PART_NAMES)) i [] }
+{
+    if i < PLACES {
+        NAMES[i]
+    } else if i < ROWS.len() {
+        PART_NAMES[i - PLACES]
+    } else {
+        ""
+    }
 }
 
 // The row of this name, and its number.
 pub fn row_named(name: &[u8]) -> Option<(usize, Row)>
-    ensures { IfSome result (λ found. (found.0 < 26) × (found.1 ≡ slice_index_or ROWS found.0 found.1)) }
+    ensures row { IfSome result (λ found. (found.0 < 26) × (found.1 ≡ slice_index_or ROWS found.0 found.1)) }
+    ensures named { IfSome result (λ found. name.now ≡ slice_index_or (map (λ name. name.now) (NAMES ++ PART_NAMES)) found.0 []) }
 {
-    let i = NAMES
-        .iter()
-        .chain(PART_NAMES.iter())
-        .position(|n| n.as_bytes() == name)?;
+    let i = (0..ROWS.len()).find(|i| name_of(*i).as_bytes() == name)?;
     let row = ROWS.get(i)?;
     Some((i, *row))
 }

@@ -10,6 +10,7 @@ use Prim.Native.Nat.{ℕ, zero, suc, ◌+◌, ◌-◌, ◌*◌, ◌/◌, ◌%◌
 use mathlib.Core.Path.{◌≡◌, refl, ap, ◌∙◌}
 use mathlib.Core.List.{List, [], ◌∷◌, ◌++◌}
 use mathlib.Core.Bool.{Bool, true, false, ◌&&◌, ◌||◌}
+use Rattle.std.proofs.Math.Bool.{and-false}
 use native.Mathlib.Omega.{arith}
 use native.Mathlib.Numerals.{add-one}
 use lib.ListN.{length, get_or, take, drop, set, length-set}
@@ -91,11 +92,7 @@ decimal_append (x ∷ a) b v = decimal_append a b (10 * v + (x - 48))
 not_every : (f : ℕ → Bool) (l : List ℕ) (p : ℕ) → p < length l → f (get_or l p 0) ≡ false → every f l ≡ false
 not_every f [] p h e = absurd (omega arith)
 not_every f (x ∷ l) zero h e = rw e
-not_every f (x ∷ l) (suc p) h e = rw (not_every f l p (omega arith) e) (flat (f x))
-  where
-    flat : (t : Bool) → (t && false) ≡ false
-    flat true = refl
-    flat false = refl
+not_every f (x ∷ l) (suc p) h e = rw (not_every f l p (omega arith) e) (and-false (f x))
 
 -- one more character of a text
 module _ (s : List ℕ) (i : ℕ) (h : i < length s) where
@@ -113,11 +110,7 @@ module _ (s : List ℕ) (i : ℕ) (h : i < length s) where
 
   pub strange : (48 ≤ get_or s i 0 → get_or s i 0 ≤ 57 → ⊥) → None ≡ decimal s
   unfolding decimal
-  strange d = rw (not_every (in_range 48 57) s i h (range_is_not 48 57 (get_or s i 0) d)) (flat (ltb 0 (length s)))
-    where
-      flat : (t : Bool) → None ≡ pick (t && false) (Some (kept (decimal_from 0 s))) None
-      flat true = refl
-      flat false = refl
+  strange d = rw (not_every (in_range 48 57) s i h (range_is_not 48 57 (get_or s i 0) d), and-false)
 
 pub empty : (s : List ℕ) → length s ≡ 0 → None ≡ decimal s
 unfolding decimal

@@ -2,7 +2,7 @@
 --     digit_kept, digit_lost    a digit that was stored, and one that was not
 --     put_more          the buffer with one more digit
 --     Met               what is so behind the first i characters, n of them digits; and what follows from it:
---       met_none, past_gap, past_digit       at the start, and one character later
+--       past_gap, past_digit    one character later
 --       is_strange, is_long, is_odd, is_bytes    what the whole text is
 use Prim.Native.Nat.{ℕ, suc, ◌+◌, ◌*◌, ◌/◌, ◌%◌, ◌≤◌, ◌<◌}
 use mathlib.Core.Path.{◌≡◌, refl, sym, ap, ◌∙◌}
@@ -73,30 +73,26 @@ module _ (s : List ℕ) (i : ℕ) (h : i < length s) where
 
 -- STORING A DIGIT
 module _ (at room n d : ℕ) (out l : List ℕ) (r : Bool) (x : (r, l) ≡ digit_stored at room n d out) where
-  pub digit_kept : r ≡ true
-      → (n / 2 < room) × (at + n / 2 < length out) × (l ≡ set out (at + n / 2) (pick (eqb (n % 2) 0) (d * 16 % 256) (bit_or (get_or out (at + n / 2) 0) d)))
+  abbrev byte : ℕ
+  byte = pick (eqb (n % 2) 0) (d * 16 % 256) (bit_or (get_or out (at + n / 2) 0) d)
+
+  pub digit_kept : r ≡ true → (n / 2 < room) × (at + n / 2 < length out) × (l ≡ set out (at + n / 2) byte)
   unfolding digit_stored
   digit_kept t = go (ltb (n / 2) room) refl x
     where
-      v : ℕ
-      v = pick (eqb (n % 2) 0) (d * 16 % 256) (bit_or (get_or out (at + n / 2) 0) d)
-
-      go : (b : Bool) → ltb (n / 2) room ≡ b → (r, l) ≡ pick b (stored (at + n / 2) v out) (false, out)
-          → (n / 2 < room) × (at + n / 2 < length out) × (l ≡ set out (at + n / 2) v)
+      go : (b : Bool) → ltb (n / 2) room ≡ b → (r, l) ≡ pick b (stored (at + n / 2) byte out) (false, out)
+          → (n / 2 < room) × (at + n / 2 < length out) × (l ≡ set out (at + n / 2) byte)
       go true e y = (ltb-true (n / 2) room e, ltb-true (at + n / 2) (length out) (sym (ap (λ p. p.0) y) ∙ t), ap (λ p. p.1) y)
-      go false e y = let f = ap (λ p. p.0) y in let z : ◌≡◌ {A = ℕ} 0 1 = cc in absurd (omega arith)
+      go false e y = let f = ap (λ p. p.0) y in cc
 
   pub digit_lost : r ≡ false → (fitting at room out ≤ n / 2) × (l ≡ out)
   unfolding digit_stored
   digit_lost t = go (ltb (n / 2) room) refl x
     where
-      v : ℕ
-      v = pick (eqb (n % 2) 0) (d * 16 % 256) (bit_or (get_or out (at + n / 2) 0) d)
-
-      go : (b : Bool) → ltb (n / 2) room ≡ b → (r, l) ≡ pick b (stored (at + n / 2) v out) (false, out) → (fitting at room out ≤ n / 2) × (l ≡ out)
+      go : (b : Bool) → ltb (n / 2) room ≡ b → (r, l) ≡ pick b (stored (at + n / 2) byte out) (false, out) → (fitting at room out ≤ n / 2) × (l ≡ out)
       go true e y =
           let k : length out ≤ at + n / 2 = ltb-false (at + n / 2) (length out) (sym (ap (λ p. p.0) y) ∙ t) in
-          (omega arith, ap (λ p. p.1) y ∙ set_out out (at + n / 2) v k)
+          (omega arith, ap (λ p. p.1) y ∙ set_out out (at + n / 2) byte k)
       go false e y = (omega (arith, ltb-false (n / 2) room e), ap (λ p. p.1) y)
 
 -- BEHIND SOME CHARACTERS
@@ -105,9 +101,6 @@ pub record Met (s first : List ℕ) (at room i n : ℕ) (out : List ℕ) : Type 
   pub count : n ≡ length (digits_in (take i s))
   pub within : n ≤ 2 * fitting at room first
   pub stores : out ≡ sets first at (packed (digits_in (take i s)))
-
-pub met_none : (s out : List ℕ) (at room : ℕ) → Met s out at room 0 0 out
-met_none s out at room = record { plain = refl; count = refl; within = omega arith; stores = refl }
 
 module _ (s first : List ℕ) (at room i n : ℕ) (out : List ℕ) (m : Met s first at room i n out) where
   pub met_length : length out ≡ length first
@@ -155,33 +148,24 @@ module _ (s first : List ℕ) (at room i n : ℕ) (out : List ℕ) (m : Met s fi
     whole : known s ≡ take i s
     whole = m.plain ∙ rw (drop_of_length-le s h) (append-nil (take i s))
 
-    pub is_odd : n % 2 ≡ 1 → (Err Odd, out) ≡ hex_stored s at room first
+    ended : (pick (eqb (n % 2) 1) (Err Odd) (Ok (n / 2)), out) ≡ hex_stored s at room first
     unfolding hex_stored hex_text
-    is_odd d =
+    ended =
         rw (
           whole,
           ← m.count,
           le-ltb (2 * fitting at room first) n m.within,
           ap length (take_all i s h),
           le-ltb (length s) (length s) (omega arith),
-          eq-eqb (n % 2) 1 d,
           take_all (fitting at room first) (packed (digits_in (take i s))) fits,
           ← m.stores,
         )
 
+    pub is_odd : n % 2 ≡ 1 → (Err Odd, out) ≡ hex_stored s at room first
+    is_odd d = rw (eq-eqb (n % 2) 1 d) at ended
+
     pub is_bytes : (n % 2 ≡ 1 → ⊥) → (Ok (n / 2), out) ≡ hex_stored s at room first
-    unfolding hex_stored hex_text
-    is_bytes d =
-        rw (
-          whole,
-          ← m.count,
-          le-ltb (2 * fitting at room first) n m.within,
-          ap length (take_all i s h),
-          le-ltb (length s) (length s) (omega arith),
-          ne_eqb (n % 2) 1 d,
-          take_all (fitting at room first) (packed (digits_in (take i s))) fits,
-          ← m.stores,
-        )
+    is_bytes d = rw (ne_eqb (n % 2) 1 d) at ended
 
   module _ (h : i < length s) (d : digit_of (get_or s i 0) < 16) (f : fitting at room first ≤ n / 2) where
     -- all digits of the text

@@ -1,3 +1,4 @@
 pub mod Decimals
 pub mod Hexes
 pub mod Lists
+pub mod Splits

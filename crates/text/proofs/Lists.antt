@@ -2,7 +2,7 @@
 --     before_most, before_is    how many characters stand before one that passes
 --     split             the first word, and what stands behind it
 --     Listed            what is so behind the words before word k; and what follows from it:
---       listed_none, listed_more    at the start, and one word later
+--       listed_more    one word later
 --       cut, whole, ended    what the list is
 use Prim.Native.Nat.{ℕ, suc, ◌+◌, ◌-◌, ◌≤◌, ◌<◌}
 use mathlib.Core.Path.{◌≡◌, refl, ap, ◌∙◌}
@@ -73,11 +73,6 @@ pub record Listed (s first : List ℕ) (from to sep at k : ℕ) (out : List ℕ)
   pub count : k - from ≤ length (byte_words sep s (to - from) from)
   pub left : drop (k - from) (byte_words sep s (to - from) from) ≡ byte_words sep s (to - k) k
   pub stores : out ≡ sets first at (take (k - from) (byte_words sep s (to - from) from))
-
-pub listed_none : (s first : List ℕ) (from to sep at : ℕ) → Listed s first from to sep at from first
-listed_none s first from to sep at =
-    let z : from - from ≡ 0 = omega arith in
-    record { low = omega arith; count = omega arith; left = rw z; stores = rw z }
 
 module _ (s first : List ℕ) (from to sep at k : ℕ) (out : List ℕ) (m : Listed s first from to sep at k out) (g : from ≤ k) where
   module _ (h : k < to) where

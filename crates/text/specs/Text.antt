@@ -54,6 +54,14 @@ abbrev pub word_at : ℕ → ℕ → List ℕ → List ℕ
 word_at sep zero cs = take (before (is_gap sep) (from_word sep cs)) (from_word sep cs)
 word_at sep (suc k) cs = word_at sep k (past_word sep cs)
 
+-- the words, at most n of them; and all, each of a character or more
+abbrev pub words_up_to : ℕ → ℕ → List ℕ → List (List ℕ)
+words_up_to sep zero cs = []
+words_up_to sep (suc n) cs = pick (eqb (length (word_at sep 0 cs)) 0) [] (word_at sep 0 cs ∷ words_up_to sep n (past_word sep cs))
+
+unfoldable pub words_in : ℕ → List ℕ → List (List ℕ)
+words_in sep cs = words_up_to sep (length cs) cs
+
 -- DECIMAL NUMBERS
 -- the number that decimal digits make after the number v
 abbrev pub decimal_from : ℕ → List ℕ → ℕ

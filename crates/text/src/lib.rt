@@ -2,10 +2,11 @@
 #![tactic(auto)]
 
 ghost use Rattle.std.specs.Prelude.{◌≡◌, ◌+◌, ◌-◌, ◌*◌, ◌≤◌, ◌^◌, length, get_or, drop, leb, not, position, is_some};
+ghost use Rattle.std.specs.Iterator.{YieldsFirstRef, item_count};
 ghost use Rattle.std.proofs.lemmas.List.Edits.{sets};
 ghost use Rattle.refusal.specs.Outcome.{pick};
 ghost use Rattle.words.specs.Words.{bytes_of};
-ghost use Rattle.text.specs.Text.{stored, is_gap, past_word, word_at, IsCharacter, decimal, number_stored, list_stored, digit_stored, hex_stored, sixteen_stored};
+ghost use Rattle.text.specs.Text.{stored, is_gap, past_word, word_at, words_in, IsCharacter, decimal, number_stored, list_stored, digit_stored, hex_stored, sixteen_stored};
 
 pub mod out;
 
@@ -28,7 +29,8 @@ pub fn byte(bytes: &[u8], at: usize, i: usize) -> u8
     bytes.get(place).copied().unwrap_or(0)
 }
 
-// Stores byte `i` from `at` on; tells whether there is room. A bool: an Option or a Result had nothing to carry.
+// Stores byte `i` from `at` on; tells whether there is room. A bool: most callers leave it, and an Option<()> would be made to be dropped. Here and below a
+// buffer and a place are no slice from that place on: each caller would have to show that the place lies within.
 pub fn set(out: &mut [u8], at: usize, i: usize, b: u8) -> bool
     ensures { (result, out.new) ≡ stored (at + i) b out.old }
 {
@@ -54,7 +56,8 @@ fn is_gap(b: u8, sep: u8) -> bool
     }
 }
 
-// Where the first word of the text begins. It and the next are functions of their own: in `split_word` the proof of their chains didn't close.
+// Where the first word of the text begins. It and the next are functions of their own: in `split_word` the proof of their chains didn't close; and
+// two, since one of both by a closure is as long.
 fn find_word(text: &[u8], sep: u8) -> Option<usize>
     ensures { result ≡ position (λ b. not (is_gap sep b)) text.now }
 {
@@ -79,15 +82,43 @@ fn split_word<'a>(text: &'a [u8], sep: u8) -> (&'a [u8], &'a [u8])
     rest.split_at(end)
 }
 
-// Word `k` of the text, counted from 0; empty if there are fewer. With the end of a line for `sep`, line `k`, of those that are not empty.
+// The words of a text that are still to come.
+#[derive(Drop)]
+pub struct Words<'a> {
+    rest: &'a [u8],
+    sep: u8,
+}
+
+impl<'a> Iterator for Words<'a> {
+    type Item = &'a [u8];
+
+    ghost next_gives = { YieldsFirstRef (λ words. words_in words.sep words.rest.now) };
+
+    ghost remaining = { item_count (λ words. words_in words.sep words.rest.now) };
+
+    #[tactic(auto, using(crate::proofs::Splits::no_word, crate::proofs::Splits::one_word))]
+    fn next(&mut self) -> Option<&'a [u8]> {
+        let (word, rest) = split_word(self.rest, self.sep);
+        if word.is_empty() {
+            return None;
+        }
+        self.rest = rest;
+        Some(word)
+    }
+}
+
+// The words of a text, one after another. With the end of a line for `sep` its lines, those that are not empty.
+pub fn words_of<'a>(text: &'a [u8], sep: u8) -> Words<'a>
+    ensures { (result.rest.now ≡ text.now) × (result.sep ≡ sep) }
+{
+    Words { rest: text, sep }
+}
+
+// Word `k` of the text, counted from 0; empty if there are fewer.
 pub fn word<'a>(text: &'a [u8], k: usize, sep: u8) -> &'a [u8]
     ensures { result.now ≡ word_at sep k text.now }
 {
-    let mut rest = text;
-    for _i in 0..k {
-        rest = split_word(rest, sep).1;
-    }
-    split_word(rest, sep).0
+    words_of(text, sep).nth(k).unwrap_or(&[])
 }
 
 // What a character of hexadecimal text is.
@@ -213,20 +244,16 @@ pub fn put_list(
 ) -> Option<()>
     ensures { (is_some result, out.new) ≡ list_stored text.now from to sep at out.old }
 {
+    // By number, and no chain: it would end at a word that is missing, which here is an answer.
+    let mut words = words_of(text, sep);
+    for _i in 0..from.min(to) {
+        words.next();
+    }
     for k in from..to {
-        let Some(x) = parse_decimal(word(text, k, sep)) else {
-            return None;
-        };
-        if 255 < x {
-            return None;
-        }
-        set(out, at, k - from, (x & 0xff) as u8);
+        let x = parse_decimal(words.next()?)?;
+        set(out, at, k - from, u8::try_from(x).ok()?);
     }
-    if word(text, to, sep).is_empty() {
-        Some(())
-    } else {
-        None
-    }
+    words.next().is_none().then_some(())
 }
 
 // Exactly 16 bytes, in hexadecimal; none if they are not.

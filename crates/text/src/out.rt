@@ -1,4 +1,7 @@
 // Printing. What a command answers goes to standard output, everything else to standard error.
+ghost use Rattle.std.specs.Prelude.{◌≡◌, ◌≢◌};
+ghost use Rattle.text.specs.Printing.{Becomes};
+
 use std::fmt::Display;
 use std::io::{Error, ErrorKind, Print, Stderr, Stdout};
 use std::{fmt, io};
@@ -29,7 +32,9 @@ pub struct Out {
 }
 
 impl Out {
-    pub fn new(rt: &HostRuntime) -> Out {
+    pub fn new(rt: &HostRuntime) -> Out
+        ensures { result.fate ≡ Fate.Written }
+    {
         Out {
             output: rt.stdout(),
             error: rt.stderr(),
@@ -37,12 +42,16 @@ impl Out {
         }
     }
 
-    pub fn fate(&self) -> Fate {
+    pub fn fate(&self) -> Fate
+        ensures { result ≡ self.now.fate }
+    {
         self.fate
     }
 
     // Notes what became of a write. A complaint that cannot be written is no failure.
-    fn settle(&mut self, to: Stream, written: io::Result<()>) {
+    fn settle(&mut self, to: Stream, written: io::Result<()>)
+        ensures { self.old.fate ≢ Fate.Unread → Becomes to self.old.fate self.new.fate }
+    {
         let Err(e) = written else {
             return;
         };
@@ -54,7 +63,9 @@ impl Out {
     }
 
     // What a value prints.
-    pub fn put<D: Display + Drop>(&mut self, to: Stream, value: D) {
+    pub fn put<D: Display + Drop>(&mut self, to: Stream, value: D)
+        ensures { Becomes to self.old.fate self.new.fate }
+    {
         if self.fate == Fate::Unread {
             return;
         }
@@ -65,16 +76,22 @@ impl Out {
         self.settle(to, written);
     }
 
-    pub fn say<D: Display + Drop>(&mut self, value: D) {
+    pub fn say<D: Display + Drop>(&mut self, value: D)
+        ensures { Becomes Stream.Output self.old.fate self.new.fate }
+    {
         self.put(Stream::Output, value);
     }
 
-    pub fn note<D: Display + Drop>(&mut self, value: D) {
+    pub fn note<D: Display + Drop>(&mut self, value: D)
+        ensures { Becomes Stream.Error self.old.fate self.new.fate }
+    {
         self.put(Stream::Error, value);
     }
 
     // Bytes that need not be text.
-    pub fn note_bytes(&mut self, bytes: &[u8]) {
+    pub fn note_bytes(&mut self, bytes: &[u8])
+        ensures { Becomes Stream.Error self.old.fate self.new.fate }
+    {
         if self.fate == Fate::Unread {
             return;
         }

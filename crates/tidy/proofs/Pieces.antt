@@ -96,7 +96,7 @@ module _ (id : ℕ) (s : List ℕ) (f : Found) (p : ℕ) where
     where
       go : (b : Bool) → none ≡ pick b (some (take (get_or f.2 p 0) (drop (get_or f.1 p 0) s))) none → b ≡ false
       go false q = refl
-      go true q = let z : ◌≡◌ {A = ℕ} 0 1 = cc in absurd (omega arith)
+      go true q = cc
 
   pub value_due : (v : List ℕ) → marked 0x1047ff p ≡ false → some v ≡ value_at s f p → due_value true id v ≡ piece_for id s f p
   unfolding piece_for piece_of value_at span_at
@@ -104,7 +104,7 @@ module _ (id : ℕ) (s : List ℕ) (f : Found) (p : ℕ) where
     where
       go : (b : Bool) (k : Kind) → (k ≡ number → ⊥) → some v ≡ pick b (some (take (get_or f.2 p 0) (drop (get_or f.1 p 0) s))) none
           → due_value true id v ≡ piece_of k b id (get_or f.1 p 0) (take (get_or f.2 p 0) (drop (get_or f.1 p 0) s))
-      go false k n q = let z : ◌≡◌ {A = ℕ} 0 1 = cc in absurd (omega arith)
+      go false k n q = cc
       go true number n q = absurd (n refl)
       go true flag n q = let w : v ≡ take (get_or f.2 p 0) (drop (get_or f.1 p 0) s) = cc in rw w
       go true cid n q = let w : v ≡ take (get_or f.2 p 0) (drop (get_or f.1 p 0) s) = cc in rw w

@@ -32,13 +32,13 @@ fn code_of(answer: Result<usize, Refusal>) -> usize
 fn read_once(src: &[u8]) -> u8
     ensures { result ≡ code (read Side.Client src.now) }
 {
-    match reader::read(Side::Client, src) {
-        Ok(_) => 0,
-        Err(refusal) => refusal.number(),
-    }
+    reader::read(Side::Client, src)
+        .err()
+        .map_or(0, |refusal| refusal.number())
 }
 
-// Reads so many times, and gives what the last gave.
+// Reads so many times, and gives what the last gave. A loop of its own, and not the next one's with one extension: what that does to find the next is
+// no part of what is measured.
 #[unsafe(no_mangle)]
 #[tactic(auto, unfolding(crate::specs::Timing::last_of))]
 pub extern "C" fn timing_read(src: &[u8], times: usize) -> u8
@@ -51,7 +51,8 @@ pub extern "C" fn timing_read(src: &[u8], times: usize) -> u8
     last
 }
 
-// The same for extensions of one size that stand one after another, from the first again after the last.
+// The same for extensions of one size that stand one after another, from the first again after the last. 0 where there is not one: C takes a number. By
+// position: they may be of no bytes, and `chunks_exact` has no such pieces.
 #[unsafe(no_mangle)]
 #[tactic(auto, unfolding(crate::specs::Timing::read_next, crate::specs::Timing::reads_of))]
 pub extern "C" fn timing_reads(src: &[u8], size: usize, times: usize) -> u8
@@ -117,7 +118,7 @@ pub extern "C" fn timing_write(record: &[u8], times: usize, out: &mut [u8]) -> u
     }
 }
 
-// The same once.
+// The same once. A function of its own, since its name is exported.
 #[unsafe(no_mangle)]
 pub extern "C" fn timing_written(record: &[u8], out: &mut [u8]) -> usize
     ensures { (result, out.new) ≡ written_from (record_from «record».now) 1 out.old }

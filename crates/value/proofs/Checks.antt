@@ -18,7 +18,7 @@ use Rattle.varint.proofs.Laws.{read_take}
 use Rattle.marks.specs.Mark.{marked}
 use Rattle.words.specs.Words.{zeros}
 use Rattle.catalogue.specs.Catalogue.{Kind, number, flag, cid, token, address, reserved, other_kinds, kinds, kind_at, fills, fits, illegal, id_length}
-use Rattle.catalogue.proofs.Places.{below_at}
+use Rattle.std.proofs.lemmas.Bool.{agree_below_at}
 use Rattle.record.specs.Values.{value}
 use Rattle.front.specs.declared.Fault.{Fault}
 use Rattle.front.specs.declared.Fault.TheVariants.{SecondCopy, Misfit, Illegal}
@@ -140,7 +140,7 @@ unfolding all kind_at kinds other_kinds
 agree p = go (ltb p 21) refl
   where
     go : (b : Bool) → ltb p 21 ≡ b → all (tests p (kind_at p)) ≡ true
-    go true e = unfold marked in below_at 21 (λ p. all (tests p (kind_at p))) refl p (ltb-true p 21 e)
+    go true e = unfold marked in agree_below_at (λ p. all (tests p (kind_at p))) (λ p. true) 21 p refl (ltb-true p 21 e)
     go false e =
         let h = ltb-false p 21 e in
         let k : kind_at p ≡ reserved = get_or-eq_default kinds reserved {n = p} h in
@@ -172,8 +172,7 @@ module _ (p : ℕ) where
   not_number_at a e =
       let t : is number (kind_at p) ≡ true = rw e refl in
       let f : false ≡ true = sym a ∙ number_told ∙ t in
-      let z : ◌≡◌ {A = ℕ} 0 1 = cc in
-      omega arith
+      cc
 
   pub cid_at_lem : marked 0x70000 p ≡ true → kind_at p ≡ cid
   cid_at_lem a = is_it cid (kind_at p) (sym cid_told ∙ a)
@@ -191,11 +190,11 @@ module _ (p : ℕ) where
   none_at a b c d e = go (kind_at p) (sym number_told ∙ a) (sym cid_told ∙ b) (sym flag_told ∙ c) (sym token_told ∙ ne_eqb p 12 d) (sym address_told ∙ ne_eqb p 15 e)
     where
       go : (k : Kind) → is number k ≡ false → is cid k ≡ false → is flag k ≡ false → is token k ≡ false → is address k ≡ false → k ≡ reserved
-      go number a b c d e = let z : ◌≡◌ {A = ℕ} 0 1 = cc in absurd (omega arith)
-      go cid a b c d e = let z : ◌≡◌ {A = ℕ} 0 1 = cc in absurd (omega arith)
-      go flag a b c d e = let z : ◌≡◌ {A = ℕ} 0 1 = cc in absurd (omega arith)
-      go token a b c d e = let z : ◌≡◌ {A = ℕ} 0 1 = cc in absurd (omega arith)
-      go address a b c d e = let z : ◌≡◌ {A = ℕ} 0 1 = cc in absurd (omega arith)
+      go number a b c d e = cc
+      go cid a b c d e = cc
+      go flag a b c d e = cc
+      go token a b c d e = cc
+      go address a b c d e = cc
       go reserved a b c d e = refl
 
 -- A VALUE TOLD BY ITS LENGTH: between the least and the greatest, of which a number's are its own
@@ -237,8 +236,8 @@ module _ (a len x n : ℕ) (rest : List ℕ) (room : 8 ≤ length rest) (within 
       go flag s = by_length a (take len rest) flag (leb 0 len && leb len 0) refl refl (exactly 0 len ∙ rw long)
       go cid s = by_length a (take len rest) cid (leb 0 len && leb len 20) refl refl (rw (long, leb-zero len))
       go token s = by_length a (take len rest) token (leb 16 len && leb len 16) refl refl (exactly 16 len ∙ rw long)
-      go address s = let z : ◌≡◌ {A = ℕ} 0 1 = cc in absurd (omega arith)
-      go reserved s = let z : ◌≡◌ {A = ℕ} 0 1 = cc in absurd (omega arith)
+      go address s = cc
+      go reserved s = cc
 
 -- A VALUE FOR A PLACE
 pub for_place : (p : ℕ) (k : Kind) (a : ℕ) (v : List ℕ) (o : Result Fault ℕ) → kind_at p ≡ k → o ≡ check_kind k a v → o ≡ check_value p a v
@@ -261,9 +260,9 @@ taken met p a v x e = go met (illegal (kind_at p) v) (fits (kind_at p) v) refl e
         → accepted x ≡ pick {A = Result Fault ℕ} s (refused SecondCopy) (pick i (refused Illegal) (pick f (accepted (kept_of (kind_at p) a v)) (refused Misfit)))
         → Taken p a v x
     go false false true h e = record { fit = h; is = cc }
-    go false false false h e = let z : ◌≡◌ {A = ℕ} 0 1 = cc in absurd (omega arith)
-    go false true f h e = let z : ◌≡◌ {A = ℕ} 0 1 = cc in absurd (omega arith)
-    go true i f h e = let z : ◌≡◌ {A = ℕ} 0 1 = cc in absurd (omega arith)
+    go false false false h e = cc
+    go false true f h e = cc
+    go true i f h e = cc
 
 -- no other value that fits is longer than 61 bytes
 pub short : (k : Kind) (v : List ℕ) → (k ≡ number → ⊥) → fits k v ≡ true → length v ≤ 61
@@ -273,4 +272,4 @@ short flag v n f = omega (arith, eqb-true (length v) 0 f)
 short cid v n f = omega (arith, leb-true (length v) 20 f)
 short token v n f = omega (arith, eqb-true (length v) 16 f)
 short address v n f = omega (arith, leb-true (id_length v) 20 (all_at _ f 1), eqb-true (length v) (41 + id_length v) (all_at _ f 2))
-short reserved v n f = let z : ◌≡◌ {A = ℕ} 0 1 = cc in absurd (omega arith)
+short reserved v n f = cc

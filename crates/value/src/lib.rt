@@ -16,6 +16,7 @@ use front::Fault;
 use marks::is_marked;
 use record::ResetToken;
 use varint::VarInt;
+use words::all_zero;
 
 // A number that uses exactly its bytes.
 #[tactic(auto, using(crate::proofs::Checks::number_unread, crate::proofs::Checks::number_read_lem))]
@@ -44,7 +45,7 @@ fn check_address(start: usize, v: &[u8]) -> Result<u64, Fault>
     if v.len() < end {
         return Err(Fault::Misfit);
     }
-    if v[..24].iter().all(|b| *b == 0) {
+    if all_zero(&v[..24]) {
         return Err(Fault::Illegal);
     }
     fits_if(v.len() == end, start as u64)
@@ -56,24 +57,8 @@ fn fits_if(test: bool, kept: u64) -> Result<u64, Fault>
     test.then_some(kept).ok_or(Fault::Misfit)
 }
 
-// A value for a simple place: a number is as long as it says, a token 16, a connection ID up to 20, a flag none. Parameters come in any order,
-// so there is no branch on the kind: what depends on it is taken from arrays of two, by a test as 0 or 1.
-fn check_wide(place: usize, start: usize, len: usize, rest: &[u8]) -> Result<u64, Fault>
-    requires { (8 ≤ length rest.now) × (len ≤ length rest.now) × (is_simple (kind_at place) ≡ true) }
-    ensures { fault_outcome result ≡ check_value place start (take len rest.now) }
-{
-    let (x, n) = VarInt::decode_wide(rest);
-    let is_number = usize::from(is_marked(NUMBER_PLACES, place));
-    let is_cid = usize::from(is_marked(CID_PLACES, place));
-    let is_token = usize::from(place == STATELESS_RESET_TOKEN);
-    let least = [ResetToken::SIZE * is_token, n];
-    let kept = [start as u64, x];
-    let shortest = least[is_number];
-    let longest = shortest + ConnectionId::MAX_SIZE * is_cid;
-    fits_if((shortest <= len) & (len <= longest), kept[is_number])
-}
-
-// A value for a place: there is none for the reserved parameter's place, nor beyond the last.
+// A value for a place: there is none for the reserved parameter's place, nor beyond the last. The kinds are told by masks, as in `check_wide`: an enum of
+// kinds would be a second table of the same.
 fn check_narrow(place: usize, start: usize, v: &[u8]) -> Result<u64, Fault>
     ensures { fault_outcome result ≡ check_value place start v.now }
 {
@@ -84,7 +69,7 @@ fn check_narrow(place: usize, start: usize, v: &[u8]) -> Result<u64, Fault>
         return fits_if(v.len() <= ConnectionId::MAX_SIZE, start as u64);
     }
     if is_marked(FLAG_PLACES, place) {
-        return fits_if(v.len() == 0, start as u64);
+        return fits_if(v.is_empty(), start as u64);
     }
     if place == STATELESS_RESET_TOKEN {
         return fits_if(v.len() == ResetToken::SIZE, start as u64);
@@ -95,27 +80,66 @@ fn check_narrow(place: usize, start: usize, v: &[u8]) -> Result<u64, Fault>
     Err(Fault::Misfit)
 }
 
-// The value of `len` bytes at the front of `rest`, or of all that is there.
-#[tactic(auto, using(crate::proofs::Checks::simple_told, crate::proofs::Checks::all_there))]
-fn check_value(place: usize, start: usize, len: usize, rest: &[u8]) -> Result<u64, Fault>
-    ensures { fault_outcome result ≡ check_value place start (take len rest.now) }
-{
-    if rest.len() < len {
-        return check_narrow(place, start, rest);
-    }
-    if VarInt::MAX_SIZE <= rest.len() && is_marked(SIMPLE_PLACES, place) {
-        return check_wide(place, start, len, rest);
-    }
-    check_narrow(place, start, &rest[..len])
+// A value received: for which place, where it starts in the extension, and its bytes, the first `len` of `rest` or all that are there.
+#[derive(Clone, Copy)]
+pub struct Received<'a> {
+    pub place: usize,
+    pub start: usize,
+    pub len: usize,
+    pub rest: &'a [u8],
 }
 
-// A value for a place, which was met before or not: `len` bytes at the front of `rest`, which starts at `start` of the extension.
-#[tactic(auto, unfolding(crate::specs::Value::receive_value))]
-pub fn receive(met: bool, place: usize, start: usize, len: usize, rest: &[u8]) -> Result<u64, Fault>
-    ensures { fault_outcome result ≡ receive_value met place start (take len rest.now) }
-{
-    if met {
-        return Err(Fault::SecondCopy);
+impl<'a> Received<'a> {
+    // For a simple place: a number is as long as it says, a token 16, a connection ID up to 20, a flag none. Parameters come in any order, so there
+    // is no branch on the kind: what depends on it is taken from arrays of two, by a test as 0 or 1.
+    fn check_wide(self) -> Result<u64, Fault>
+        requires { (8 ≤ length self.rest.now) × (self.len ≤ length self.rest.now) × (is_simple (kind_at self.place) ≡ true) }
+        ensures { fault_outcome result ≡ check_value self.entry.place self.entry.start (take self.entry.len self.entry.rest.now) }
+    {
+        let Received {
+            place,
+            start,
+            len,
+            rest,
+        } = self;
+        let (x, n) = VarInt::decode_wide(rest);
+        let is_number = usize::from(is_marked(NUMBER_PLACES, place));
+        let is_cid = usize::from(is_marked(CID_PLACES, place));
+        let is_token = usize::from(place == STATELESS_RESET_TOKEN);
+        let least = [ResetToken::SIZE * is_token, n];
+        let kept = [start as u64, x];
+        let shortest = least[is_number];
+        let longest = shortest + ConnectionId::MAX_SIZE * is_cid;
+        fits_if((shortest <= len) & (len <= longest), kept[is_number])
     }
-    check_value(place, start, len, rest)
+
+    #[tactic(auto, using(crate::proofs::Checks::simple_told, crate::proofs::Checks::all_there))]
+    fn check(self) -> Result<u64, Fault>
+        ensures { fault_outcome result ≡ check_value self.entry.place self.entry.start (take self.entry.len self.entry.rest.now) }
+    {
+        let Received {
+            place,
+            start,
+            len,
+            rest,
+        } = self;
+        if rest.len() < len {
+            return check_narrow(place, start, rest);
+        }
+        if VarInt::MAX_SIZE <= rest.len() && is_marked(SIMPLE_PLACES, place) {
+            return self.check_wide();
+        }
+        check_narrow(place, start, &rest[..len])
+    }
+
+    // What is kept of it; the place was met before or not.
+    #[tactic(auto, unfolding(crate::specs::Value::receive_value))]
+    pub fn receive(self, met: bool) -> Result<u64, Fault>
+        ensures { fault_outcome result ≡ receive_value met self.entry.place self.entry.start (take self.entry.len self.entry.rest.now) }
+    {
+        if met {
+            return Err(Fault::SecondCopy);
+        }
+        self.check()
+    }
 }

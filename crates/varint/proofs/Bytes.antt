@@ -2,7 +2,7 @@
 use Prim.Native.Nat.{ℕ, zero, suc, ◌+◌, ◌-◌, ◌*◌, ◌/◌, ◌%◌, ◌^◌, ◌≤◌, ◌<◌}
 use mathlib.Core.Path.{◌≡◌, refl, ap, ap₂, sym, ◌∙◌}
 use mathlib.Core.List.{List, [], ◌∷◌, ◌++◌}
-use native.Mathlib.Nat.{div-lt_iff_lt-mul, mul_comm, mul_assoc, add-mul-div_left}
+use native.Mathlib.Nat.{mul_comm, mul_assoc, add-mul-div_left, one-le-pow}
 use native.Mathlib.Omega.{arith}
 use lib.ListN.{length, get_or, take, drop, replicate, length-append, length-replicate}
 use lib.Seq.{sets, sets-eq, take_all, drop-drop}
@@ -16,7 +16,7 @@ use Rattle.refusal.specs.Outcome.{accepted, refused, pick, front}
 use Rattle.refusal.proofs.Laws.{pick_cases}
 use Rattle.varint.specs.Number.{tag_of, form, number_bytes, read_number}
 use Rattle.words.specs.Words.{value_from, bytes_of}
-use Rattle.words.proofs.Big.{pow_pos, length_bytes_of, bytes_above, gathered, value_gathered}
+use Rattle.words.proofs.Big.{length_bytes_of, bytes_above, gathered, value_gathered}
 
 -- bytes stored one after another from the front on
 pub stored : (vs out : List ℕ) → length vs ≤ length out → sets out 0 vs ≡ front vs out
@@ -60,9 +60,6 @@ tag_least v k hk h =
 pub length_form : (k v : ℕ) → k ≤ 3 → length (form k v) ≡ 2 ^ k
 unfolding form
 length_form k v h = let r = width_range k h in rw length_bytes_of (omega arith)
-
-pub high_lt : (n v : ℕ) → v < 64 * 256 ^ n → v / 256 ^ n < 64
-high_lt n v h = (div-lt_iff_lt-mul (pow_pos n)).1 h
 
 pub read_none : (s : List ℕ) → length s ≡ 0 → refused 3 ≡ read_number s
 unfolding read_number
@@ -142,7 +139,7 @@ tagged_word : (k n v : ℕ) → (v / 256 ^ n + k * 64 < 256) → bit_or (k * (64
     → bytes_of (suc n) (bit_or (k * (64 * 256 ^ n)) v) ≡ (k * 64 + v / 256 ^ n) ∷ bytes_of n v
 tagged_word k n v h e =
     let s : k * (64 * 256 ^ n) + v ≡ v + 256 ^ n * (k * 64) = rw (mul_comm (256 ^ n) (k * 64), mul_assoc) (omega arith) in
-    rw (e, s) (ap₂ ◌∷◌ (rw (add-mul-div_left v (k * 64) (pow_pos n)) (omega arith)) (bytes_above n (k * 64) v))
+    rw (e, s) (ap₂ ◌∷◌ (rw (add-mul-div_left v (k * 64) (one-le-pow n 256 (omega arith))) (omega arith)) (bytes_above n (k * 64) v))
 
 pub one_byte : (v : ℕ) → v < 64 → v ∷ [] ≡ bytes_of 1 (bit_or (0 * 2 ^ 6) v)
 one_byte v h = rw (or_shifted 0 6 v h) (ap (λ b. b ∷ []) (omega arith))

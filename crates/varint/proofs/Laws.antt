@@ -5,10 +5,10 @@
 --     read_bounds           what is read is below 2 ^ 62, lies within the bytes, and is no shorter than the shortest form
 --     write_refused, write_sized     what a number's size says of writing it
 use Prim.Native.Nat.{ℕ, zero, suc, ◌-◌, ◌*◌, ◌/◌, ◌%◌, ◌^◌, ◌≤◌, ◌<◌}
-use mathlib.Core.Path.{◌≡◌, refl, ap}
+use mathlib.Core.Path.{◌≡◌, refl, ap, sym}
 use mathlib.Core.List.{List, [], ◌∷◌, ◌++◌}
 use mathlib.Core.Bool.{Bool, true, false}
-use native.Mathlib.Nat.{div-add-mod'}
+use native.Mathlib.Nat.{div-add-mod', one-le-pow}
 use native.Mathlib.Omega.{arith}
 use lib.ListN.{length, get_or, take, length-append, length-take}
 use lib.Seq.{take_at, take-take, take-append-le, length-take-le}
@@ -20,8 +20,9 @@ use Rattle.varint.specs.Number.{bound, tag_of, form, number_bytes, read_number, 
 use Rattle.words.specs.Words.{value_from, bytes_of}
 use Rattle.refusal.specs.Outcome.{Outcome, accepted, refused, pick, store}
 use Rattle.refusal.proofs.Laws.{picked}
-use Rattle.varint.proofs.Bytes.{high_lt, four, width_range, length_form, tag_le, tag_room, tag_least}
+use Rattle.varint.proofs.Bytes.{four, width_range, length_form, tag_le, tag_room, tag_least}
 use Rattle.words.proofs.Laws.{bytes_take}
+use Rattle.std.proofs.lemmas.Nat.{div_below}
 use Rattle.words.proofs.Big.{length_bytes_of, value_bytes_of, value_lt}
 
 -- at every width that has room, longer than needed or not
@@ -29,7 +30,7 @@ pub read_form : (k v : ℕ) (rest : List ℕ) → k ≤ 3 → v < 64 * 256 ^ (2 
 unfolding read_number form
 read_form k v rest hk hv =
     let w = width_range k hk in
-    let x = high_lt _ v hv in
+    let x = div_below v (256 ^ (2 ^ k - 1)) 64 (one-le-pow _ 256 (omega arith)) hv in
     let l : 2 ^ k ≤ suc (length (bytes_of (2 ^ k - 1) v ++ rest)) = simp (length-append, length_bytes_of) (omega arith) in
     rw (
       digits_div k x,
@@ -46,21 +47,16 @@ read_number_bytes v rest h = rw (length_form _ v (tag_le v)) (read_form (tag_of 
 -- what is read has a byte at least, and lies within the bytes, whatever they are
 pub read_within : (bs : List ℕ) (v n : ℕ) → read_number bs ≡ accepted (v, n) → (1 ≤ n) × (n ≤ length bs)
 unfolding read_number
-read_within [] v n e = let z : ◌≡◌ {A = ℕ} 0 1 = cc in absurd (omega arith)
-read_within (b ∷ bs) v n e = go _ refl e
-  where
-    go : (t : Bool) → leb (2 ^ (b / 64)) (suc (length bs)) ≡ t
-        → pick {A = Outcome (ℕ × ℕ)} t (accepted (value_from (b % 64) (take (2 ^ (b / 64) - 1) bs), 2 ^ (b / 64))) (refused 3) ≡ accepted (v, n)
-        → (1 ≤ n) × (n ≤ suc (length bs))
-    go false p e = let z : ◌≡◌ {A = ℕ} 0 1 = cc in absurd (omega arith)
-    go true p e =
-        let q : ◌≡◌ {A = ℕ × ℕ} (value_from (b % 64) (take (2 ^ (b / 64) - 1) bs), 2 ^ (b / 64)) (v, n) = cc in
-        let j : 2 ^ (b / 64) ≡ n = ap (λ r. r.1) q in
-        omega (arith, leb-true, pow_pos (b / 64))
+read_within [] v n e = cc
+read_within (b ∷ bs) v n e =
+    picked _ _ (v, n) 3 e λ t q.
+    let l : 2 ^ (b / 64) ≤ suc (length bs) = leb-true _ _ t in
+    let j : 2 ^ (b / 64) ≡ n = ap (λ r. r.1) q in
+    omega (arith, pow_pos (b / 64))
 
 pub number_append : (bs cs : List ℕ) (a : ℕ × ℕ) → read_number bs ≡ accepted a → read_number (bs ++ cs) ≡ accepted a
 unfolding read_number
-number_append [] cs a e = let z : ◌≡◌ {A = ℕ} 0 1 = cc in absurd (omega arith)
+number_append [] cs a e = cc
 number_append (b ∷ bs) cs a e =
     picked _ _ a 3 e λ t q.
     let h : 2 ^ (b / 64) ≤ suc (length bs) = leb-true _ _ t in
@@ -72,7 +68,7 @@ number_append (b ∷ bs) cs a e =
 pub read_take : (m : ℕ) (s : List ℕ) (x n : ℕ) → read_number s ≡ accepted (x, n) → read_number (take m s) ≡ pick (leb n m) (accepted (x, n)) (refused 3)
 unfolding read_number
 read_take zero s x n e = rw (lt-leb n 0 (read_within s x n e).0)
-read_take (suc m) [] x n e = let z : ◌≡◌ {A = ℕ} 0 1 = cc in absurd (omega arith)
+read_take (suc m) [] x n e = cc
 read_take (suc m) (b ∷ bs) x n e =
     picked _ _ (x, n) 3 e λ t q.
     let h : 2 ^ (b / 64) ≤ suc (length bs) = leb-true _ _ t in
@@ -97,15 +93,11 @@ read_take (suc m) (b ∷ bs) x n e =
             rw (lt-leb _ _ i)
 
 -- of a tag k, with w what is read behind it and m bytes in all
-bounds : (k w m v n : ℕ) (t : Bool) → k ≤ 3 → leb (2 ^ k) m ≡ t → (2 ^ k ≤ m → w < 64 * 256 ^ (2 ^ k - 1))
-    → pick {A = Outcome (ℕ × ℕ)} t (accepted (w, 2 ^ k)) (refused 3) ≡ accepted (v, n) → (v < 2 ^ 62) × (n ≤ m) × (length (number_bytes v) ≤ n)
-bounds k w m v n false hk p hw e = let z : ◌≡◌ {A = ℕ} 0 1 = cc in absurd (omega arith)
-bounds k w m v n true hk p hw e =
-    let q : ◌≡◌ {A = ℕ × ℕ} (w, 2 ^ k) (v, n) = cc in
+bounds : (k w m v n : ℕ) → k ≤ 3 → 2 ^ k ≤ m → w < 64 * 256 ^ (2 ^ k - 1) → ◌≡◌ {A = ℕ × ℕ} (w, 2 ^ k) (v, n) → (v < 2 ^ 62) × (n ≤ m) × (length (number_bytes v) ≤ n)
+bounds k w m v n hk l hw q =
     let i : w ≡ v = ap (λ r. r.0) q in
     let j : 2 ^ k ≡ n = ap (λ r. r.1) q in
-    let l : 2 ^ k ≤ m = leb-true _ _ p in
-    let hv : v < 64 * 256 ^ (2 ^ k - 1) = rw i at (hw l) in (
+    let hv : v < 64 * 256 ^ (2 ^ k - 1) = rw i at hw in (
       four k (λ k. v < 64 * 256 ^ (2 ^ k - 1) → v < 2 ^ 62) hk (omega arith) (omega arith) (omega arith) (omega arith) hv,
       omega arith,
       rw (length_form _ v (tag_le v), ← j) (pow_mono (tag_least v k hk hv)),
@@ -114,14 +106,15 @@ bounds k w m v n true hk p hw e =
 pub read_bounds : (bs : List ℕ) (v n : ℕ) → ((i : ℕ) → get_or bs i 0 < 256) → read_number bs ≡ accepted (v, n)
     → (v < 2 ^ 62) × (n ≤ length bs) × (length (number_bytes v) ≤ n)
 unfolding read_number
-read_bounds [] v n hs e = let z : ◌≡◌ {A = ℕ} 0 1 = cc in absurd (omega arith)
+read_bounds [] v n hs e = cc
 read_bounds (b ∷ bs) v n hs e =
+    picked _ _ (v, n) 3 e λ p q.
     let hk : b / 64 ≤ 3 = omega (arith, hs 0) in
-    bounds (b / 64) _ (suc (length bs)) v n _ hk refl (λ l.
+    let l : 2 ^ (b / 64) ≤ suc (length bs) = leb-true _ _ p in
     let w = width_range (b / 64) hk in
     let m = 2 ^ (b / 64) - 1 in
     let t : length (take m bs) ≡ m = length-take-le m bs (omega arith) in
-    rw t at (value_lt (take m bs) (b % 64) 64 (bytes_take m bs (λ i. hs (suc i))) (omega arith))) e
+    bounds (b / 64) _ (suc (length bs)) v n hk l (rw t at (value_lt (take m bs) (b % 64) 64 (bytes_take m bs (λ i. hs (suc i))) (omega arith))) q
 
 -- what a number's size says of writing it
 pub write_refused : (v : ℕ) (out : List ℕ) (e : ℕ) → refused e ≡ size_number v → (refused e, out) ≡ write_number v out
@@ -130,13 +123,9 @@ write_refused v out e = go (ltb v bound) refl
   where
     go : (t : Bool) → ltb v bound ≡ t → refused e ≡ pick {A = Outcome ℕ} t (accepted (length (number_bytes v))) (refused 4)
         → ◌≡◌ {A = Outcome ℕ × List ℕ} (refused e, out) (pick t (store (number_bytes v) out) (refused 4, out))
-    go true h q = let z : ◌≡◌ {A = ℕ} 0 1 = cc in absurd (omega arith)
+    go true h q = cc
     go false h q = ap (λ (o : Outcome ℕ). (o, out)) q
 
 pub write_sized : (v n : ℕ) → accepted n ≡ size_number v → (v < 2 ^ 62) × (n ≡ length (number_bytes v))
 unfolding size_number
-write_sized v n = go (ltb v bound) refl
-  where
-    go : (t : Bool) → ltb v bound ≡ t → accepted n ≡ pick {A = Outcome ℕ} t (accepted (length (number_bytes v))) (refused 4) → (v < 2 ^ 62) × (n ≡ length (number_bytes v))
-    go true h q = (ltb-true v bound h, cc)
-    go false h q = let z : ◌≡◌ {A = ℕ} 0 1 = cc in absurd (omega arith)
+write_sized v n q = picked (ltb v bound) (length (number_bytes v)) n 4 (sym q) (λ t e. (ltb-true v bound t, sym e))

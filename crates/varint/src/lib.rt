@@ -27,6 +27,7 @@ impl TryFrom<u64> for VarInt {
 
     ghost try_from_gives = { λ x r. convert_outcome r ≡ convert_number x };
 
+    #[tactic(auto, using(std::proofs::lemmas::Bool::Decides::nat_tests), unfolding(crate::specs::Number::convert_number))]
     fn try_from(x: u64) -> Result<VarInt, Refusal> {
         if VarInt::MAX.0 < x {
             return Err(Refusal::VarIntBoundsExceeded);
@@ -51,6 +52,7 @@ impl VarInt {
     pub const MAX_SIZE: usize = 8;
 
     // How many bytes the shortest form has.
+    #[tactic(auto, using(std::proofs::lemmas::Bool::Decides::nat_tests), unfolding(crate::specs::Number::size_number))]
     pub fn size(self) -> Result<usize, Refusal>
         ensures { outcome_of result ≡ size_number self.0 }
     {
@@ -62,6 +64,7 @@ impl VarInt {
     }
 
     // The number at the front of `src`. The one-byte form stands apart: most numbers are short.
+    #[tactic(auto, using(crate::proofs::Bytes::read_none))]
     pub fn decode(src: &[u8]) -> Result<(u64, usize), Refusal>
         ensures { outcome_of result ≡ read_number src.now }
     {
@@ -76,7 +79,9 @@ impl VarInt {
         decode_longer(tag, src)
     }
 
-    // The same where eight bytes are there, with no branch on the number's width; 0 and 0 if there are fewer.
+    // The same where eight bytes are there, with no branch on the number's width. 0 and 0 if there are fewer, and no Option: its caller has counted
+    // the bytes, and would branch once more.
+    #[tactic(auto, using(crate::proofs::Word::read_front))]
     pub fn decode_wide(src: &[u8]) -> (u64, usize)
         ensures { (accepted result ≡ read_wide src.now) × (result.1 ≤ 8) }
     {
@@ -87,6 +92,7 @@ impl VarInt {
     }
 
     // Writes the shortest form to the front of `out`.
+    #[tactic(auto, using(refusal::proofs::Laws::raised, crate::proofs::Laws::write_refused, crate::proofs::Laws::write_sized), unfolding(crate::specs::Number::write_number, refusal::specs::Outcome::store))]
     pub fn encode(self, out: &mut [u8]) -> Result<usize, Refusal>
         ensures { (outcome_of result, out.new) ≡ write_number self.0 out.old }
     {
@@ -98,7 +104,7 @@ impl VarInt {
     }
 }
 
-// How many bytes the shortest form has; 8 for a value that has none.
+// How many bytes the shortest form has; 8 for a value that has none, since this never fails: `VarInt::size` refuses it.
 #[tactic(auto, using(crate::proofs::Bytes::size_1, crate::proofs::Bytes::size_2, crate::proofs::Bytes::size_4, crate::proofs::Bytes::size_8))]
 pub fn size_of(x: u64) -> usize
     ensures { result ≡ length (number_bytes x) }
@@ -115,6 +121,7 @@ pub fn size_of(x: u64) -> usize
 }
 
 // The number at the front of eight bytes, which make `word`.
+#[tactic(auto, using(crate::proofs::Word::bits_range))]
 fn wide_of(word: u64) -> (u64, usize)
     ensures { (accepted result ≡ read_number (bytes_of 8 word)) × (result.1 ≤ 8) }
 {
@@ -123,7 +130,7 @@ fn wide_of(word: u64) -> (u64, usize)
     ((word & VarInt::MAX.0) >> (64 - bits), 1usize << tag)
 }
 
-// A number of two, four or eight bytes, as `tag` of the first byte says.
+// A number of two, four or eight bytes, as `tag` of the first byte says: a `match`, since const arguments are constants.
 fn decode_longer(tag: u8, src: &[u8]) -> Result<(u64, usize), Refusal>
     requires { (0 < length src.now) × (tag ≡ get_or src.now 0 0 / 64) × (0 < tag) }
     ensures { outcome_of result ≡ read_number src.now }
@@ -136,6 +143,7 @@ fn decode_longer(tag: u8, src: &[u8]) -> Result<(u64, usize), Refusal>
 }
 
 // The number at the front, whose form has N bytes. The tag is no part of it.
+#[tactic(auto, using(crate::proofs::Bytes::read_short, crate::proofs::Bytes::read_sized, crate::proofs::Bytes::low_end))]
 fn read_form<const N: usize>(src: &[u8]) -> Result<(u64, usize), Refusal>
     requires { (0 < N) × (N ≤ 8) × (0 < length src.now) × (N ≡ 2 ^ (get_or src.now 0 0 / 64)) }
     ensures { outcome_of result ≡ read_number src.now }
@@ -152,6 +160,7 @@ fn read_form<const N: usize>(src: &[u8]) -> Result<(u64, usize), Refusal>
 }
 
 // Stores bytes, for which there is room, at the front, and gives their number.
+#[tactic(auto, unfolding(refusal::specs::Outcome::front))]
 fn store<const N: usize>(bytes: [u8; N], out: &mut [u8]) -> usize
     requires { N ≤ length out.old }
     ensures { (result ≡ N) × (out.new ≡ front bytes.entry out.old) }

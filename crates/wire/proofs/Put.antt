@@ -7,12 +7,13 @@
 --     not_due, is_due, number_not_due, number_is_due    a parameter that is due or not
 --     value_off, number_off     of one that is not, nothing is stored
 --     short_none, short_whole, short_put, number_none, number_few, number_declined, number_whole    identifiers and lengths of one byte
---     head_first, head_second, head_whole, long_nothing, long_head, long_none, long_whole    and of any
+--     too_high, kept_low, kept_part, kept_within    a number that was declined, and one that was stored
+--     head_first, head_room, head_second, head_count, head_whole, long_nothing, long_none, long_whole    and of any
 use Prim.Native.Nat.{ℕ, ◌+◌, ◌≤◌, ◌<◌}
 use mathlib.Core.List.{List, [], ◌∷◌, ◌++◌, append_assoc}
 use mathlib.Core.Option.{none, some}
 use mathlib.Core.Path.{◌≡◌, refl, ap, ap₂, sym, ◌∙◌}
-use mathlib.Core.Bool.{Bool, true, false, ◌&&◌}
+use mathlib.Core.Bool.{Bool, true, false, ◌&&◌, and-false, and-true}
 use native.Mathlib.Omega.{arith}
 use native.Mathlib.Nat.{zero-add, div-one}
 use lib.ListN.{length, take, drop, set, length-append, length-take}
@@ -25,7 +26,6 @@ use Rattle.varint.proofs.Bytes.{tag_0, tag_le, length_form, width_range}
 use Rattle.catalogue.specs.Catalogue.{parameter, parameter_if}
 use Rattle.wire.specs.Wire.{put, head_of, Headed, due_value, due_number}
 use Rattle.wire.specs.Stored.{Wrote}
-use Rattle.words.proofs.Laws.{and-true}
 use Rattle.wire.proofs.Stored.{lent, back, whole, back_same, length_lent, front_nil, front_then, front_two, length_front, behind}
 
 -- STORING
@@ -90,16 +90,12 @@ pub record Encoded (x : ℕ) (out : List ℕ) (n : ℕ) (m : List ℕ) : Type 0 
   pub count : n ≡ length (number_bytes x)
   pub bytes : m ≡ front (number_bytes x) out
 
-pub encoded_part : (x n : ℕ) (out m : List ℕ) → Encoded x out n m → take n m ≡ number_bytes x
-unfolding front
-encoded_part x n out m e = rw (e.bytes, e.count) (take-append_seam (number_bytes x) (drop (length (number_bytes x)) out))
-
 pub record Declined (x : ℕ) (out m : List ℕ) : Type 0 where
   pub same : m ≡ out
   pub why : x < bound → length out < length (number_bytes x)
 
 module _ (x : ℕ) (out : List ℕ) where
-  abbrev Gives : Outcome ℕ → List ℕ → Type 0
+  abbrev pub Gives : Outcome ℕ → List ℕ → Type 0
   Gives o m = ◌≡◌ {A = Outcome ℕ × List ℕ} (o, m) (write_number x out)
 
   abbrev answer : Bool → Bool → Outcome ℕ × List ℕ
@@ -111,15 +107,15 @@ module _ (x : ℕ) (out : List ℕ) where
     where
       go : (s : Bool) → ltb x bound ≡ s → (t : Bool) → leb (length (number_bytes x)) (length out) ≡ t → accepted n ≡ (answer s t).0 → m ≡ (answer s t).1 → Encoded x out n m
       go true p true q f g = record { low = ltb-true _ _ p; fits = leb-true _ _ q; count = cc; bytes = g }
-      go true p false q f g = let z : ◌≡◌ {A = ℕ} 0 1 = cc in absurd (omega arith)
-      go false p t q f g = let z : ◌≡◌ {A = ℕ} 0 1 = cc in absurd (omega arith)
+      go true p false q f g = cc
+      go false p t q f g = cc
 
   pub declined : (r : ℕ) (m : List ℕ) → Gives (refused r) m → Declined x out m
   unfolding write_number store
   declined r m w = go (ltb x bound) refl (leb (length (number_bytes x)) (length out)) refl (ap (λ (a : Outcome ℕ × List ℕ). a.0) w) (ap (λ (a : Outcome ℕ × List ℕ). a.1) w)
     where
       go : (s : Bool) → ltb x bound ≡ s → (t : Bool) → leb (length (number_bytes x)) (length out) ≡ t → refused r ≡ (answer s t).0 → m ≡ (answer s t).1 → Declined x out m
-      go true p true q f g = let z : ◌≡◌ {A = ℕ} 0 1 = cc in absurd (omega arith)
+      go true p true q f g = cc
       go true p false q f g = record { same = g; why = λ h. leb-false _ _ q }
       go false p t q f g = record { same = g; why = λ h. absurd (omega (arith, ltb-false x bound p)) }
 
@@ -226,9 +222,6 @@ module _ (id x : ℕ) (out : List ℕ) (h : id < 64) where
       (short_whole id (number_bytes x) out h (omega (arith, number_size_lem x)) n ys (omega (arith, e.fits, length_lent 2 out)) e.count e.bytes)
 
 -- ANY IDENTIFIER AND LENGTH
-pub taken : (n : ℕ) (bs l : List ℕ) → n ≡ length bs → take n l ≡ bs → (n ≤ length l) × (n ≡ length (take n l))
-taken n bs l e f = (omega (arith, length-take n l, ap length f), e ∙ ap length (sym f))
-
 no_head : (id n : ℕ) → (ltb id bound && ltb n bound) ≡ false → head_of id n ≡ []
 unfolding head_of
 no_head id n e = rw e
@@ -237,34 +230,53 @@ high_first : (id n : ℕ) → bound ≤ id → head_of id n ≡ []
 high_first id n h = no_head id n (rw (le-ltb _ _ h))
 
 high_second : (id n : ℕ) → bound ≤ n → head_of id n ≡ []
-high_second id n h = no_head id n (rw (le-ltb _ _ h) (go (ltb id bound)))
-  where
-    go : (b : Bool) → (b && false) ≡ false
-    go true = refl
-    go false = refl
+high_second id n h = no_head id n (rw (le-ltb _ _ h) (and-false (ltb id bound)))
 
 -- with room for any number, one that is declined is too large
-pub too_high : (x : ℕ) (out m : List ℕ) → 8 ≤ length out → Declined x out m → bound ≤ x
-too_high x out m h d = go (ltb x bound) refl
+pub too_high : (x r : ℕ) (out m : List ℕ) → 8 ≤ length out → Gives x out (refused r) m → bound ≤ x
+too_high x r out m h w = go (ltb x bound) refl
   where
     go : (b : Bool) → ltb x bound ≡ b → bound ≤ x
-    go true e = absurd (omega (arith, d.why (ltb-true x bound e), number_size_lem x))
+    go true e = absurd (omega (arith, (declined x out r m w).why (ltb-true x bound e), number_size_lem x))
     go false e = ltb-false _ _ e
 
+-- one that is stored is the first n bytes
+module _ (x n : ℕ) (out m : List ℕ) (w : Gives x out (accepted n) m) where
+  kept : Encoded x out n m
+  kept = encoded x out n m w
+
+  pub kept_low : x < bound
+  kept_low = kept.low
+
+  pub kept_part : take n m ≡ number_bytes x
+  unfolding front
+  kept_part = let e = kept in rw (e.bytes, e.count) (take-append_seam (number_bytes x) (drop (length (number_bytes x)) out))
+
+  pub kept_within : (n ≤ length m) × (n ≡ length (take n m))
+  kept_within = (omega (arith, length-take n m, ap length kept_part, kept.count), kept.count ∙ ap length (sym kept_part))
+
 module _ (id n : ℕ) (out : List ℕ) (h : 16 ≤ length out) where
-  pub head_first : (m : List ℕ) → Declined id out m → head_of id n ≡ []
-  head_first m d = high_first id n (too_high id out m (omega arith) d)
+  pub head_first : (r : ℕ) (m : List ℕ) → Gives id out (refused r) m → head_of id n ≡ []
+  head_first r m w = high_first id n (too_high id r out m (omega arith) w)
 
-  module _ (a : ℕ) (m : List ℕ) (e : Encoded id out a m) where
+  module _ (a : ℕ) (m : List ℕ) (w : Gives id out (accepted a) m) where
+    first : Encoded id out a m
+    first = encoded id out a m w
+
     pub head_room : (a ≤ 8) × (length m ≡ length out)
-    head_room = (omega (arith, e.count, number_size_lem id), ap length e.bytes ∙ length_front (number_bytes id) out e.fits)
+    head_room = let e = first in (omega (arith, e.count, number_size_lem id), ap length e.bytes ∙ length_front (number_bytes id) out e.fits)
 
-    pub head_second : (ys : List ℕ) → Declined n (lent a m) ys → head_of id n ≡ []
-    head_second ys d = high_second id n (too_high n (lent a m) ys (behind 8 a m (omega (arith, head_room.0, head_room.1))) d)
+    pub head_second : (r : ℕ) (ys : List ℕ) → Gives n (lent a m) (refused r) ys → head_of id n ≡ []
+    head_second r ys v = high_second id n (too_high n r (lent a m) ys (behind 8 a m (omega (arith, head_room.0, head_room.1))) v)
 
-    pub head_whole : (b : ℕ) (ys : List ℕ) → Encoded n (lent a m) b ys → Headed id n (a + b) (back a m ys)
+    pub head_count : (b : ℕ) (ys : List ℕ) → Gives n (lent a m) (accepted b) ys → a + b ≤ 16
+    head_count b ys v = omega (arith, head_room.0, number_fits n b (encoded n (lent a m) b ys v).count)
+
+    pub head_whole : (b : ℕ) (ys : List ℕ) → Gives n (lent a m) (accepted b) ys → Headed id n (a + b) (back a m ys)
     unfolding head_of front
-    head_whole b ys f =
+    head_whole b ys v =
+        let e = first in
+        let f = encoded n (lent a m) b ys v in
         let bs : List ℕ = number_bytes id ++ number_bytes n in
         let l : a + b ≡ length bs = rw (length-append (number_bytes id) (number_bytes n)) (omega (arith, e.count, f.count)) in
         let r : length (number_bytes id) + length (number_bytes n) ≤ length out = omega (arith, number_size_lem id, number_size_lem n) in
@@ -299,10 +311,6 @@ module _ (id : ℕ) (v : List ℕ) where
   module _ (n : ℕ) (out head : List ℕ) (e : Headed id (length v) n head) where
     long_due : due_value true id v ≡ head_of id (length v) ++ v
     long_due = head_or _ (λ h _. absurd (omega (arith, e.some, e.count, ap length h))) (λ _ d. d)
-
-    -- there are so many
-    pub long_head : (n ≤ length head) × (n ≡ length (take n head))
-    long_head = taken n (head_of id (length v)) head e.count e.bytes
 
     pub long_none : length out < n + length v → (0, out) ≡ put (due_value true id v) out
     long_none l = rw long_due (put_none _ out (rw (length-append (head_of id (length v)) v) (omega (arith, e.count))))

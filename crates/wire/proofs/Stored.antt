@@ -5,7 +5,7 @@
 --     wrote_three     and a third
 --     lent_room       the room that is left
 --     joined_append   parameters one after another, part by part
---     stored_short, stored_whole, stored_copy    what storing answers
+--     stored_short, stored_whole    what storing answers
 use Prim.Native.Nat.{ℕ, zero, suc, ◌+◌, ◌-◌, ◌≤◌, ◌<◌}
 use mathlib.Core.List.{List, [], ◌∷◌, ◌++◌, append_assoc, append-nil}
 use mathlib.Core.Path.{◌≡◌, refl, ap, ap₂, sym, ◌∙◌}
@@ -13,8 +13,9 @@ use native.Mathlib.Omega.{arith}
 use native.Mathlib.Nat.{zero-add}
 use native.Mathlib.Numerals.{add-one}
 use lib.ListN.{length, take, drop, set, length-append, length-drop, take-append-drop, drop_of_length-le}
-use lib.Seq.{take_all, take-length, take-append_seam, drop-append_seam, drop-drop, paste}
+use lib.Seq.{take-length, take-append_seam, drop-append_seam, drop-drop, paste}
 use borrow.Author.Tests.{le-leb, lt-leb}
+use Rattle.std.proofs.lemmas.List.{take_rest}
 use Rattle.refusal.specs.Outcome.{Outcome, accepted, refused, front, store}
 use Rattle.wire.specs.Stored.{Wrote, joined, each}
 
@@ -37,11 +38,8 @@ lent at l = take (length l - at) (drop at l)
 abbrev pub back : ℕ → List ℕ → List ℕ → List ℕ
 back at l ys = take at l ++ (ys ++ drop (length l - at) (drop at l))
 
-pub rest : (at : ℕ) (l : List ℕ) → lent at l ≡ drop at l
-rest at l = take_all (length l - at) (drop at l) (omega (arith, length-drop at l))
-
 pub length_lent : (at : ℕ) (l : List ℕ) → length (lent at l) ≡ length l - at
-length_lent at l = rw (rest at l) (length-drop at l)
+length_lent at l = rw (take_rest l at) (length-drop at l)
 
 pub whole : (at : ℕ) (l ys : List ℕ) → back at l ys ≡ take at l ++ ys
 whole at l ys =
@@ -49,7 +47,7 @@ whole at l ys =
     rw (z, append-nil)
 
 pub back_same : (at : ℕ) (l : List ℕ) → back at l (lent at l) ≡ l
-back_same at l = rw (whole at l (lent at l), rest at l) (take-append-drop at l)
+back_same at l = rw (whole at l (lent at l), take_rest l at) (take-append-drop at l)
 
 -- b behind a, in the part lent for it
 pub front_then : (a b l m ys : List ℕ) (at : ℕ) → at ≡ length a → length a + length b ≤ length l → m ≡ front a l → ys ≡ front b (lent at m)
@@ -60,7 +58,7 @@ front_then a b l m ys at e h f g =
     let d : drop at m ≡ drop (length a) l = simp (e, f, drop-append_seam) in
     let t : take at m ≡ a = simp (e, f, take-append_seam) in
     let z : drop (length m - at) (drop at m) ≡ [] = drop_of_length-le (drop at m) {i = length m - at} (omega (arith, length-drop at m)) in
-    let y : ys ≡ b ++ drop (length a + length b) l = g ∙ simp (rest at m ∙ d, drop-drop) in
+    let y : ys ≡ b ++ drop (length a + length b) l = g ∙ simp (take_rest m at ∙ d, drop-drop) in
     simp (t, z, y, append-nil, append_assoc, length-append)
 
 pub wrote_as : (p n : ℕ) (a b l m : List ℕ) → a ≡ b → Wrote p a l n m → Wrote p b l n m
@@ -89,7 +87,7 @@ wrote_length p n a l m h w = let c = w.count in ap length w.bytes ∙ length_fro
 
 -- room for others behind
 pub behind : (n at : ℕ) (l : List ℕ) → at + n ≤ length l → n ≤ length (lent at l)
-behind n at l h = rw (rest at l, length-drop at l) (omega arith)
+behind n at l h = rw (take_rest l at, length-drop at l) (omega arith)
 
 pub lent_room : (p q n : ℕ) (a l m : List ℕ) → p + q ≤ length l → Wrote p a l n m → q ≤ length (lent n m)
 lent_room p q n a l m h w =
@@ -134,9 +132,3 @@ stored_whole p n bs out m h w = rw (le-leb _ _ h) (ap₂ (λ (k : ℕ) (l : List
 pub whole_part : (p n : ℕ) (bs out m : List ℕ) → Wrote p bs out n m → take n m ≡ bs
 unfolding front
 whole_part p n bs out m w = rw (w.count, w.bytes) (take-append_seam bs (drop (length bs) out))
-
-pub stored_copy : (p n : ℕ) (bs scratch m out ys : List ℕ) → Wrote p bs scratch n m → n ≤ length out → ys ≡ front (take n m) out
-    → ◌≡◌ {A = Outcome ℕ × List ℕ} (accepted n, ys) (store bs out)
-stored_copy p n bs scratch m out ys w h e =
-    let c = w.count in
-    stored_whole p n bs out ys (omega arith) (record { count = c; few = w.few; bytes = e ∙ ap (λ (s : List ℕ). front s out) (whole_part p n bs scratch m w) })

@@ -1,6 +1,7 @@
 // Parameters on the wire: one writer for each kind of value, for writing and for tidying. Each stores all of its parameter at the front of `out`
 // and gives its byte count, or stores nothing and gives 0: if it is not due, if there is no room, or if the wire form has no such number. It is no
-// `Option`: 0 is how many bytes were stored, and callers add the counts of what is due and what is not up without a branch.
+// `Option`: 0 is how many bytes were stored, and callers add the counts up, due or not, without a branch. `due` stands beside the value: an `Option` of
+// the value would be made by a caller that tests a default, only to be taken apart here; and a struct of identifier and value would be one for each call.
 #![tactic(auto)]
 
 ghost use Rattle.std.specs.Prelude.{◌≡◌, [], true, ◌<◌, ◌≤◌, length};
@@ -35,6 +36,7 @@ pub fn put_value(due: bool, id: u64, v: &[u8], out: &mut [u8]) -> usize
 }
 
 // One that is due; a function of its own, so that callers only test whether it is. Most identifiers and lengths are one byte.
+#[tactic(auto, using(crate::proofs::Put::due_short))]
 fn put_due(id: u64, v: &[u8], out: &mut [u8]) -> usize
     ensures { (result, out.new) ≡ put (due_value true id v.now) out.old }
 {
@@ -70,6 +72,7 @@ fn put_head(id: u64, len: u64, out: &mut [u8]) -> Result<usize, Refusal>
     Ok(a + b)
 }
 
+#[tactic(auto, using(crate::proofs::Put::long_nothing, crate::proofs::Put::long_none))]
 fn put_long(id: u64, v: &[u8], out: &mut [u8]) -> usize
     ensures { (result, out.new) ≡ put (due_value true id v.now) out.old }
 {
@@ -86,7 +89,7 @@ fn put_long(id: u64, v: &[u8], out: &mut [u8]) -> usize
 }
 
 // A parameter that holds a number.
-#[tactic(auto, using(crate::proofs::Put::number_off))]
+#[tactic(auto, using(crate::proofs::Put::number_off, crate::proofs::Put::kept_within))]
 pub fn put_number(due: bool, id: u64, x: u64, out: &mut [u8]) -> usize
     ensures { (result, out.new) ≡ put (due_number due id x) out.old }
 {

@@ -15,9 +15,6 @@ use lib.Pow.{pow-add}
 use lib.Arith.{mod-mul, digits_div}
 use Rattle.words.specs.Words.{value_from, bytes_of}
 
-pub pow_pos : (n : ℕ) → 0 < 256 ^ n
-pow_pos n = one-le-pow n 256 (omega arith)
-
 pub length_bytes_of : (n v : ℕ) → length (bytes_of n v) ≡ n
 length_bytes_of zero v = refl
 length_bytes_of (suc n) v = ap suc (length_bytes_of n v)
@@ -26,7 +23,7 @@ length_bytes_of (suc n) v = ap suc (length_bytes_of n v)
 pub value_bytes_of : (n a v : ℕ) → value_from a (bytes_of n v) ≡ a * 256 ^ n + v % 256 ^ n
 value_bytes_of zero a v = omega arith
 value_bytes_of (suc n) a v =
-    rw (value_bytes_of n, pow-succ', mod-mul v {m = 256} (omega arith) (pow_pos n), add-mul, mul_assoc, add_assoc)
+    rw (value_bytes_of n, pow-succ', mod-mul v {m = 256} (omega arith) (one-le-pow n 256 (omega arith)), add-mul, mul_assoc, add_assoc)
 
 pub value_lt : (bs : List ℕ) (a c : ℕ) → ((i : ℕ) → get_or bs i 0 < 256) → a < c → value_from a bs < c * 256 ^ length bs
 value_lt [] a c hs h = omega arith
@@ -69,4 +66,4 @@ pub bytes_above : (n a v : ℕ) → bytes_of n (v + 256 ^ n * a) ≡ bytes_of n 
 bytes_above zero a v = refl
 bytes_above (suc n) a v =
     rw (pow-succ', mul_comm 256 (256 ^ n), mul_assoc (256 ^ n) 256 a)
-    (ap₂ ◌∷◌ (rw (add-mul-div_left v (256 * a) (pow_pos n)) (omega arith)) (bytes_above n (256 * a) v))
+    (ap₂ ◌∷◌ (rw (add-mul-div_left v (256 * a) (one-le-pow n 256 (omega arith))) (omega arith)) (bytes_above n (256 * a) v))

@@ -1,10 +1,10 @@
 -- Laws of the words of specs/Words.antt. Assumes nothing.
---     and_assoc, and-true, not-true, not-false    tests joined
 --     every_at, every_of    every element passes exactly if each does
 --     zeros_are         zeros are a list of zeros
 --     zeros_replicate   a list of zeros is zeros
 --     zeros_append      zeros, part by part
 --     or_none           bits joined are none exactly if both are none
+--     or_below          numbers joined bit by bit are below a power of two exactly if both are
 --     zeros_drop        zeros from a place on: the byte there, and the rest
 --     zeros_end         from the end on, only the bits met before count
 --     joined            two numbers side by side in 64 bits
@@ -14,85 +14,59 @@
 use Prim.Native.Nat.{ℕ, zero, suc, ◌+◌, ◌-◌, ◌*◌, ◌/◌, ◌%◌, ◌^◌, ◌≤◌, ◌<◌}
 use mathlib.Core.Path.{◌≡◌, refl, ap, ap₂, sym, ◌∙◌}
 use mathlib.Core.List.{List, [], ◌∷◌, ◌++◌}
-use mathlib.Core.Bool.{Bool, true, false, ◌&&◌, not}
+use mathlib.Core.Bool.{Bool, true, false, ◌&&◌, and-true, and-false, and_assoc}
 use native.Mathlib.Omega.{arith}
-use native.Mathlib.Numerals.{add-one}
 use lib.ListN.{length, get_or, take, drop, replicate, drop_of_length-le, length-drop}
 use lib.Seq.{drop-cons, get_or-drop, take_all}
-use lib.Bits.{bit_or, bit_and, or_add_and, and_le_l, and_le_r}
+use lib.Bits.{bit_or, or_lt, or_add_and, and_le_l, and_le_r}
 use lib.Dec.{eqb, ltb}
-use borrow.Author.Tests.{lt-ltb, ltb-true, eq-eqb, ne_eqb, eqb-true, eqb-false}
+use borrow.Author.Tests.{lt-ltb, le-ltb, ltb-true, ltb-false, eq-eqb, ne_eqb, eqb-true, eqb-false}
 use native.Mathlib.Nat.{pow-le-pow_right, one-le-pow, pow-succ', mul_assoc, mod-eq_of_lt, add-mul-div_left, div-eq_of_lt, div-lt_iff_lt-mul, div-one, zero-div}
 use lib.Pow.{shr-shr}
 use lib.Bits.{or_shifted}
 use lib.Seq.{drop-drop, length-take-le}
 use lib.ListN.{take-append-drop}
-use Rattle.std.proofs.lemmas.List.{drop-replicate}
+use Rattle.std.proofs.lemmas.Bool.{and_parts}
+use Rattle.std.proofs.lemmas.Bool.Decides.{nat_tests}
+use Rattle.std.proofs.lemmas.List.{drop_all, drop_more, drop-replicate}
+use Rattle.std.proofs.lemmas.Nat.{le_or_l, le_or_r}
 use Rattle.std.specs.Int.{w64, from_le_bytes}
 use Rattle.words.specs.Words.{every, zeros, word_of, bytewise, Word, elements}
 
 pub zeros_are : (l : List ℕ) → zeros l ≡ true → l ≡ replicate (length l) 0
 zeros_are [] h = refl
-zeros_are (b ∷ l) h = go (eqb b 0) refl h (zeros_are l)
-  where
-    go : (t : Bool) → eqb b 0 ≡ t → (t && zeros l) ≡ true → (zeros l ≡ true → l ≡ replicate (length l) 0) → b ∷ l ≡ 0 ∷ replicate (length l) 0
-    go true e h ih = ap₂ ◌∷◌ (eqb-true b 0 e) (ih h)
-    go false e h ih = let z : ◌≡◌ {A = ℕ} 0 1 = cc in absurd (omega arith)
+zeros_are (b ∷ l) h = let p = and_parts (eqb b 0) (zeros l) h in ap₂ ◌∷◌ (eqb-true b 0 p.0) (zeros_are l p.1)
 
 pub zeros_replicate : (n : ℕ) → zeros (replicate n 0) ≡ true
 zeros_replicate zero = refl
 zeros_replicate (suc n) = zeros_replicate n
 
-pub and_assoc : (s t u : Bool) → (s && (t && u)) ≡ ((s && t) && u)
-and_assoc true t u = refl
-and_assoc false t u = refl
-
-pub and-true : (t : Bool) → (t && true) ≡ t
-and-true true = refl
-and-true false = refl
-
 pub zeros_append : (a b : List ℕ) → zeros (a ++ b) ≡ (zeros a && zeros b)
 zeros_append [] b = refl
-zeros_append (x ∷ a) b = ap (λ t. eqb x 0 && t) (zeros_append a b) ∙ and_assoc (eqb x 0) (zeros a) (zeros b)
+zeros_append (x ∷ a) b = ap (λ t. eqb x 0 && t) (zeros_append a b) ∙ sym (and_assoc (eqb x 0) (zeros a) (zeros b))
 
 pub or_none : (a b : ℕ) → eqb (bit_or a b) 0 ≡ (eqb a 0 && eqb b 0)
-or_none a b = go (eqb a 0) refl (eqb b 0) refl
-  where
-    sum : bit_or a b + bit_and a b ≡ a + b
-    sum = or_add_and a b
+or_none a b = grind (arith, nat_tests, or_add_and a b, and_le_l a b, and_le_r a b)
 
-    go : (s : Bool) → eqb a 0 ≡ s → (t : Bool) → eqb b 0 ≡ t → eqb (bit_or a b) 0 ≡ (s && t)
-    go true e true f = eq-eqb (bit_or a b) 0 (omega (arith, sum, eqb-true a 0 e, eqb-true b 0 f))
-    go true e false f = ne_eqb (bit_or a b) 0 (λ n. eqb-false b 0 f (omega (arith, sum, n, and_le_l a b)))
-    go false e t f = ne_eqb (bit_or a b) 0 (λ n. eqb-false a 0 e (omega (arith, sum, n, and_le_r a b)))
+pub or_below : (k a b : ℕ) → ltb (bit_or a b) (2 ^ k) ≡ (ltb a (2 ^ k) && ltb b (2 ^ k))
+or_below k a b = go (ltb a (2 ^ k)) refl (ltb b (2 ^ k)) refl
+  where
+    go : (s : Bool) → ltb a (2 ^ k) ≡ s → (t : Bool) → ltb b (2 ^ k) ≡ t → ltb (bit_or a b) (2 ^ k) ≡ (s && t)
+    go true e true f = lt-ltb _ _ (or_lt k a b (ltb-true _ _ e) (ltb-true _ _ f))
+    go true e false f = le-ltb _ _ (omega (arith, le_or_r a b, ltb-false b (2 ^ k) f))
+    go false e t f = le-ltb _ _ (omega (arith, le_or_l a b, ltb-false a (2 ^ k) e))
 
 -- the zeros from place i on, with the bits met before them
 pub zeros_drop : (acc : ℕ) (l : List ℕ) (i : ℕ) → i < length l → (eqb acc 0 && zeros (drop i l)) ≡ (eqb (bit_or acc (get_or l i 0)) 0 && zeros (drop (i + 1) l))
-zeros_drop acc l i h =
-    ap (λ (m : List ℕ). eqb acc 0 && zeros m) (drop-cons l i 0 h)
-    ∙ and_assoc (eqb acc 0) (eqb (get_or l i 0) 0) (zeros (drop (suc i) l))
-    ∙ ap₂ ◌&&◌ (sym (or_none acc (get_or l i 0))) (ap (λ (n : ℕ). zeros (drop n l)) (sym (add-one i)))
+zeros_drop acc l i h = rw (drop_more l i 0 h, or_none acc (get_or l i 0)) (sym (and_assoc (eqb acc 0) (eqb (get_or l i 0) 0) (zeros (drop (i + 1) l))))
 
 pub zeros_end : (acc : ℕ) (l : List ℕ) (i : ℕ) → length l ≤ i → (eqb acc 0 && zeros (drop i l)) ≡ eqb acc 0
-zeros_end acc l i h = ap (λ (m : List ℕ). eqb acc 0 && zeros m) (drop_of_length-le l h) ∙ and-true (eqb acc 0)
-
-pub not-true : (b : Bool) → not b ≡ true → b ≡ false
-not-true true h = sym h
-not-true false h = refl
-
-pub not-false : (b : Bool) → not b ≡ false → b ≡ true
-not-false true h = refl
-not-false false h = sym h
+zeros_end acc l i h = rw (drop_all i l h) (and-true (eqb acc 0))
 
 pub every_at : (f : ℕ → Bool) (l : List ℕ) → every f l ≡ true → (p : ℕ) → p < length l → f (get_or l p 0) ≡ true
 every_at f [] h p k = absurd (omega arith)
-every_at f (x ∷ l) h p k = go (f x) refl h p k (every_at f l)
-  where
-    go : (b : Bool) → f x ≡ b → (b && every f l) ≡ true → (p : ℕ) → p < suc (length l) → (every f l ≡ true → (p : ℕ) → p < length l → f (get_or l p 0) ≡ true)
-        → f (get_or (x ∷ l) p 0) ≡ true
-    go true e h zero k ih = e
-    go true e h (suc p) k ih = ih h p (omega arith)
-    go false e h p k ih = let z : ◌≡◌ {A = ℕ} 0 1 = cc in absurd (omega arith)
+every_at f (x ∷ l) h zero k = (and_parts (f x) (every f l) h).0
+every_at f (x ∷ l) h (suc p) k = every_at f l (and_parts (f x) (every f l) h).1 p (omega arith)
 
 pub every_of : (f : ℕ → Bool) (l : List ℕ) → ((p : ℕ) → p < length l → f (get_or l p 0) ≡ true) → every f l ≡ true
 every_of f [] h = refl
@@ -114,10 +88,6 @@ module _ (u x : ℕ) (h : u < 2 ^ 64) where
   pub within : (k : ℕ) → 2 ^ k ≤ 2 ^ 64 → 0 < 2 ^ k → eqb ((u + 2 ^ 64 * x) / 2 ^ k) 0 ≡ (eqb (u / 2 ^ k) 0 && eqb x 0)
   within k l p = go (eqb x 0) refl
     where
-      flat : (b : Bool) → (b && false) ≡ false
-      flat true = refl
-      flat false = refl
-
       go : (t : Bool) → eqb x 0 ≡ t → eqb ((u + 2 ^ 64 * x) / 2 ^ k) 0 ≡ (eqb (u / 2 ^ k) 0 && t)
       go true e =
           let z : u + 2 ^ 64 * x ≡ u = omega (arith, eqb-true x 0 e) in
@@ -125,11 +95,11 @@ module _ (u x : ℕ) (h : u < 2 ^ 64) where
       go false e =
           ne_eqb _ 0 (λ (q : (u + 2 ^ 64 * x) / 2 ^ k ≡ 0).
           let b : u + 2 ^ 64 * x < 1 * 2 ^ k = (div-lt_iff_lt-mul {x = u + 2 ^ 64 * x} {y = 1} p).0 (omega arith) in absurd (omega (arith, eqb-false x 0 e)))
-          ∙ sym (flat (eqb (u / 2 ^ k) 0))
+          ∙ sym (and-false (eqb (u / 2 ^ k) 0))
 
 pub every_append : (f : ℕ → Bool) (a b : List ℕ) → every f (a ++ b) ≡ (every f a && every f b)
 every_append f [] b = refl
-every_append f (x ∷ a) b = ap (λ t. f x && t) (every_append f a b) ∙ and_assoc (f x) (every f a) (every f b)
+every_append f (x ∷ a) b = ap (λ t. f x && t) (every_append f a b) ∙ sym (and_assoc (f x) (every f a) (every f b))
 
 pub bytes_join : (a b : List ℕ) → bytewise a ≡ true → bytewise b ≡ true → bytewise (a ++ b) ≡ true
 bytes_join a b h k = every_append (λ b. ltb b 256) a b ∙ rw (h, k)
@@ -142,22 +112,13 @@ zeros_word zero l h = rw (div-one (word_of l)) (all_zero l)
     all_zero (b ∷ l) = rw (all_zero l) (both b (word_of l))
       where
         both : (b w : ℕ) → (eqb b 0 && eqb w 0) ≡ eqb (b + 256 * w) 0
-        both b w = go (eqb b 0) refl (eqb w 0) refl
-          where
-            go : (s : Bool) → eqb b 0 ≡ s → (t : Bool) → eqb w 0 ≡ t → (s && t) ≡ eqb (b + 256 * w) 0
-            go true e true f = sym (eq-eqb (b + 256 * w) 0 (omega (arith, eqb-true b 0 e, eqb-true w 0 f)))
-            go true e false f = sym (ne_eqb (b + 256 * w) 0 (omega (arith, eqb-false w 0 f)))
-            go false e t f = sym (ne_eqb (b + 256 * w) 0 (omega (arith, eqb-false b 0 e)))
+        both b w = grind (arith, nat_tests)
 zeros_word (suc n) [] h = sym (eq-eqb _ 0 (zero-div (2 ^ (8 * suc n))))
-zeros_word (suc n) (b ∷ l) h = go (ltb b 256) refl h (zeros_word n l)
-  where
-    go : (t : Bool) → ltb b 256 ≡ t → (t && bytewise l) ≡ true → (bytewise l ≡ true → zeros (drop n l) ≡ eqb (word_of l / 2 ^ (8 * n)) 0)
-        → zeros (drop n l) ≡ eqb ((b + 256 * word_of l) / 2 ^ (8 * suc n)) 0
-    go true e h ih =
-        let q : (b + 256 * word_of l) / 2 ^ 8 ≡ word_of l = omega (arith, add-mul-div_left b (word_of l) {y = 256} (omega arith), div-eq_of_lt (ltb-true b 256 e)) in
-        let k : 8 + 8 * n ≡ 8 * suc n = omega arith in
-        ih h ∙ rw (← k, ← shr-shr (b + 256 * word_of l) 8 (8 * n), q)
-    go false e h ih = let z : ◌≡◌ {A = ℕ} 0 1 = cc in absurd (omega arith)
+zeros_word (suc n) (b ∷ l) h =
+    let p = and_parts (ltb b 256) (bytewise l) h in
+    let q : (b + 256 * word_of l) / 2 ^ 8 ≡ word_of l = omega (arith, ltb-true b 256 p.0) in
+    let k : 8 + 8 * n ≡ 8 * suc n = omega arith in
+    zeros_word n l p.1 ∙ rw (← k, ← shr-shr (b + 256 * word_of l) 8 (8 * n), q)
 
 -- three words, shifted by k bits
 module _ (u v w k : ℕ) (hu : u < 2 ^ 64) (hv : v < 2 ^ 64) where
@@ -169,16 +130,19 @@ module _ (u v w k : ℕ) (hu : u < 2 ^ 64) (hv : v < 2 ^ 64) where
       or_none (u / 2 ^ k) (bit_or v w) ∙ ap (λ t. eqb (u / 2 ^ k) 0 && t) (or_none v w ∙ sym two)
       ∙ sym (within u (v + 2 ^ 64 * w) hu k (pow-le-pow_right {n = 2} (omega arith) h) (one-le-pow k 2 (omega arith)))
 
-  pub in_second : k ≤ 64 → eqb (bit_or (v / 2 ^ k) w) 0 ≡ eqb ((u + 2 ^ 64 * (v + 2 ^ 64 * w)) / 2 ^ (64 + k)) 0
-  in_second h =
+  pub in_second : (j : ℕ) → 64 + k ≡ j → k ≤ 64 → eqb (bit_or (v / 2 ^ k) w) 0 ≡ eqb ((u + 2 ^ 64 * (v + 2 ^ 64 * w)) / 2 ^ j) 0
+  in_second j e h =
       or_none (v / 2 ^ k) w ∙ sym (within v w hv k (pow-le-pow_right {n = 2} (omega arith) h) (one-le-pow k 2 (omega arith)))
-      ∙ ap (λ x. eqb x 0) (sym (above u (v + 2 ^ 64 * w) hu k))
+      ∙ rw (← e, above u (v + 2 ^ 64 * w) hu k)
 
-  pub in_third : eqb (w / 2 ^ k) 0 ≡ eqb ((u + 2 ^ 64 * (v + 2 ^ 64 * w)) / 2 ^ (64 + (64 + k))) 0
-  in_third = ap (λ x. eqb x 0) (sym (above u (v + 2 ^ 64 * w) hu (64 + k) ∙ above v w hv k))
+  pub in_third : (j : ℕ) → 128 + k ≡ j → eqb (w / 2 ^ k) 0 ≡ eqb ((u + 2 ^ 64 * (v + 2 ^ 64 * w)) / 2 ^ j) 0
+  in_third j e = let s : j ≡ 64 + (64 + k) = omega arith in rw (s, above u (v + 2 ^ 64 * w) hu (64 + k), above v w hv k)
 
-  pub in_none : w < 2 ^ 64 → true ≡ eqb ((u + 2 ^ 64 * (v + 2 ^ 64 * w)) / 2 ^ (64 + (64 + (64 + k)))) 0
-  in_none hw = rw (above u (v + 2 ^ 64 * w) hu (64 + (64 + k)), above v w hv (64 + k), ← shr-shr w 64 k, div-eq_of_lt hw, zero-div (2 ^ k))
+pub in_none : (u v w j : ℕ) → u < 2 ^ 64 → v < 2 ^ 64 → w < 2 ^ 64 → 192 ≤ j → true ≡ eqb ((u + 2 ^ 64 * (v + 2 ^ 64 * w)) / 2 ^ j) 0
+in_none u v w j hu hv hw h =
+    let k = j - 192 in
+    let s : j ≡ 64 + (64 + (64 + k)) = omega arith in
+    rw (s, above u (v + 2 ^ 64 * w) hu (64 + (64 + k)), above v w hv (64 + k), ← shr-shr w 64 k, div-eq_of_lt hw, zero-div (2 ^ k))
 
 elements_all : (n i : ℕ) (s : List ℕ) → i + n ≡ length s → elements n i s ≡ drop i s
 unfolding elements

@@ -25,6 +25,7 @@ fn word_at(s: &[u8], at: usize) -> u64
 }
 
 // Whether 24 bytes, eight to a word, are zero from byte `n` on.
+#[tactic(auto, using(crate::proofs::Laws::in_first, crate::proofs::Laws::in_second, crate::proofs::Laws::in_third, crate::proofs::Laws::in_none))]
 fn words_zero_from(u: u64, v: u64, w: u64, n: usize) -> bool
     ensures { result ≡ eqb ((u + 2 ^ 64 * (v + 2 ^ 64 * w)) / 2 ^ (8 * n)) 0 }
 {

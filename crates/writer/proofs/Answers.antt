@@ -2,7 +2,7 @@
 use Prim.Native.Nat.{ℕ, ◌+◌, ◌≤◌}
 use mathlib.Core.List.{List}
 use mathlib.Core.Path.{◌≡◌, ap, sym, ◌∙◌}
-use mathlib.Core.Bool.{Bool, true, false}
+use mathlib.Core.Bool.{Bool, true, false, false≢true}
 use native.Mathlib.Omega.{arith}
 use lib.ListN.{length, take, replicate}
 use Rattle.refusal.specs.Outcome.{Outcome, accepted, refused, pick, store}
@@ -57,11 +57,8 @@ module _ (r : TransportParameters) (w : well_formed r ≡ true) (n : ℕ) (out m
       record {
         count = any_order ∙ ap length (sym (due b));
         within = omega (arith, kept.wrote.few, wrote_length max_extension n _ out m h kept.wrote);
-        in_order = by_cases (λ b os. b ≡ true → InOrder o.places st m) (λ q _. in_order r o.places n out m st q b kept) (λ z. absurd (no z));
+        in_order = by_cases (λ b os. b ≡ true → InOrder o.places st m) (λ q _. in_order r o.places n out m st q b kept) (λ z. absurd (false≢true z));
       }
-    where
-      no : false ≡ true → ⊥
-      no z = let y : ◌≡◌ {A = ℕ} 0 1 = cc in omega arith
 
 -- storing it
 module _ (n : ℕ) (order starts parts out : List ℕ) where

@@ -14,11 +14,12 @@ use native.Mathlib.Nat.{add-zero, le_refl}
 use native.Mathlib.Numerals.{add-one}
 use lib.ListN.{length, take, drop, set, length-append, length-take, length-drop, length-set, take-append-drop}
 use lib.Seq.{sets, take_at, drop_at, drop-drop, drop-append-add, drop-append_seam, length-take-le}
+use Rattle.std.proofs.lemmas.List.{take_rest}
 use Rattle.refusal.specs.Outcome.{front}
 use Rattle.catalogue.specs.Catalogue.{places}
 use Rattle.wire.specs.Wire.{put}
 use Rattle.wire.specs.Stored.{Wrote, joined, each}
-use Rattle.wire.proofs.Stored.{lent, back, rest, whole, length_lent, length_front, length_each, joined_append}
+use Rattle.wire.proofs.Stored.{lent, back, whole, length_lent, length_front, length_each, joined_append}
 use Rattle.wire.proofs.Put.{Behind, put_whole, put_within, put_behind}
 use Rattle.writer.specs.Writing.{max_extension}
 use Rattle.words.specs.Words.{zeros}
@@ -29,7 +30,7 @@ pub laid_next : (s : List ℕ) (ss : List (List ℕ)) (k at n : ℕ) (out ys st 
     → laid (s ∷ ss) k at out st ≡ laid ss (suc k) (at + n) (back at out ys) (set st k (at + n))
 unfolding laid
 laid_next s ss k at n out ys st e =
-    let p : put s (drop at out) ≡ (n, ys) = sym (e ∙ ap (put s) (rest at out)) in
+    let p : put s (drop at out) ≡ (n, ys) = sym (e ∙ ap (put s) (take_rest out at)) in
     rw (p, whole at out ys)
 
 -- how far a writer goes is a number of the machine
@@ -169,7 +170,7 @@ room_among f p n b at out st o s h k r e =
 -- what the writers are lent
 pub next_lent : {p at : ℕ} {st out : List ℕ} → Next p at st out → (32 ≤ length (lent at out)) × (zeros (lent at out) ≡ true)
 unfolding joined
-next_lent {p} {at} {st} {out} n = let r = n.room in (rw (length_lent at out) (omega (arith, r.within, r.long)), rw (rest at out) r.clear)
+next_lent {p} {at} {st} {out} n = let r = n.room in (rw (length_lent at out) (omega (arith, r.within, r.long)), rw (take_rest out at) r.clear)
 
 pub next_within : {p at : ℕ} {st out : List ℕ} → Next p at st out → at ≤ length out
 next_within n = omega (arith, n.room.within, n.room.long)

@@ -15,9 +15,11 @@ use native.Mathlib.Omega.{arith}
 use native.Mathlib.Nat.{add-zero, zero-add}
 use native.Mathlib.Numerals.{add-one}
 use lib.ListN.{length, get_or, take, drop, set, replicate, length-append, length-take, length-drop, take-append-drop, get_or-append}
-use lib.Seq.{length-take-le, take_all, take-suc, take_at, take-append-add, take-take, take-add, drop-drop, split_at, take-append_seam, drop-append-add, get_or_at, sets, sets-eq, paste, paste-suc}
+use lib.Seq.{length-take-le, take_all, take-suc, take_at, take-append-add, take-take, take-add, drop-drop, split_at, take-append_seam, drop-append-add, get_or_at, sets, sets-eq, paste}
 use borrow.Author.Tests.{eqb-true, eqb-false}
 use lib.Dec.{eqb}
+use Rattle.std.proofs.lemmas.List.{take_rest}
+use Rattle.std.proofs.lemmas.List.Edits.{paste_more}
 use Rattle.refusal.specs.Outcome.{front}
 use Rattle.refusal.proofs.Laws.{all_at}
 use Rattle.record.specs.declared.TransportParameters.{TransportParameters}
@@ -27,7 +29,7 @@ use Rattle.order.specs.Order.{distinct, permutation}
 use Rattle.wire.specs.Stored.{Wrote, joined, each}
 use Rattle.writer.specs.Laid.{ends_from, part_at, InOrder, Fit, Front}
 use Rattle.order.proofs.Orders.{first}
-use Rattle.wire.proofs.Stored.{lent, back, rest, whole, length_lent, wrote_length, joined_append, length_each}
+use Rattle.wire.proofs.Stored.{lent, back, whole, length_lent, wrote_length, joined_append, length_each}
 use Rattle.writer.proofs.Laid.{Whole, length_ends}
 
 -- AN ORDER, PLACE BY PLACE
@@ -72,7 +74,7 @@ module _ (i j room : ℕ) (a bs out m ys : List ℕ) (t : take i m ≡ a) (d : d
       let z : i + (room - i) ≡ room = omega arith in
       let b : take (i + j) (take i m ++ ys) ≡ a ++ take j bs = rw (← t, ← f.bytes) (rw long at (take-append-add (take i m) ys j)) in
       let e : drop room (take i m ++ ys) ≡ drop (room - i) ys = rw z at (rw long at (drop-append-add (take i m) ys (room - i))) in
-      let g : drop (room - i) (lent i m) ≡ drop room m = rw (rest i m, drop-drop, z) in
+      let g : drop (room - i) (lent i m) ≡ drop room m = rw (take_rest m i, drop-drop, z) in
       let y : length ys ≡ length m - i = f.same ∙ length_lent i m in
       record {
         bytes = rw (whole i m ys, b) (sym (take_all (i + j) (a ++ take j bs) (short (i + j) (take i m ++ ys) (a ++ take j bs) b)));
@@ -91,29 +93,21 @@ slice_front from len parts out ys e =
 
 -- a byte at a time
 pub copied : (out bs m : List ℕ) (i : ℕ) → i < length out → i < length bs → m ≡ paste out 0 bs i → set m i (get_or bs i 0) ≡ paste out 0 bs (i + 1)
-copied out bs m i h k e =
-    ap₂ (λ (l : List ℕ) (j : ℕ). set l j (get_or bs i 0)) e (sym (zero-add i))
-    ∙ paste-suc out 0 bs i 0 (omega arith) k
-    ∙ ap (paste out 0 bs) (sym (add-one i))
+copied out bs m i h k e = rw e (ap (λ (j : ℕ). set (paste out 0 bs i) j (get_or bs i 0)) (sym (zero-add i)) ∙ paste_more out 0 bs i 0 (omega arith) k)
 
--- the first block, one more, and no more than asked for
-pub block_first : (from len room : ℕ) (parts out ys : List ℕ) → from + len ≤ length parts → len ≤ room → room ≤ length out → ys ≡ front (take len (drop from parts)) out
-    → Front len room (drop from parts) out ys
-block_first from len room parts out ys h r k e = front_is len room (drop from parts) out ys (omega (arith, length-drop from parts)) r k e
-
-pub block_more : (from i room : ℕ) (parts out m ys : List ℕ) → Front i room (drop from parts) out m → i + 16 ≤ room → room ≤ length out → from + i + 16 ≤ length parts
-    → ys ≡ front (take 16 (drop (from + i) parts)) (lent i m) → Front (i + 16) room (drop from parts) out (back i m ys)
-block_more from i room parts out m ys w h k l e =
-    let s : List ℕ = drop from parts in
-    let t : take i m ≡ take i s = w.bytes in
+-- one more block, and no more than asked for
+pub block_more : (i room : ℕ) (part out m ys : List ℕ) → Front i room part out m → i + 16 ≤ room → room ≤ length out → i + 16 ≤ length part
+    → ys ≡ front (take 16 (drop i part)) (lent i m) → Front (i + 16) room part out (back i m ys)
+block_more i room part out m ys w h k l e =
     let r : room - i ≤ length (lent i m) = rw (length_lent i m, w.same) (omega arith) in
-    let g = front_more i 16 room (take i s) (drop (from + i) parts) out m ys t w.rest w.same (omega arith) k (block_first (from + i) 16 (room - i) parts (lent i m) ys l (omega arith) r e) in
-    let q : take i s ++ take 16 (drop (from + i) parts) ≡ take (i + 16) s = ap (λ (b : List ℕ). take i s ++ take 16 b) (sym (drop-drop i from parts)) ∙ sym (take-add i 16 s) in
-    record { bytes = g.bytes ∙ ap (take (i + 16)) q ∙ take-take (i + 16) (i + 16) s (omega arith); rest = g.rest; same = g.same }
+    let f = front_is 16 (room - i) (drop i part) (lent i m) ys (omega (arith, length-drop i part)) (omega arith) r e in
+    let g = front_more i 16 room (take i part) (drop i part) out m ys w.bytes w.rest w.same (omega arith) k f in
+    let q : take i part ++ take 16 (drop i part) ≡ take (i + 16) part = sym (take-add i 16 part) in
+    record { bytes = g.bytes ∙ ap (take (i + 16)) q ∙ take-take (i + 16) (i + 16) part (omega arith); rest = g.rest; same = g.same }
 
-pub front_less : (len i room : ℕ) (bs l out m : List ℕ) → len ≤ i → Front i room bs out m → drop room out ≡ drop room l → length out ≡ length l → Front len room bs l m
-front_less len i room bs l out m h w d e =
-    record { bytes = sym (take-take len i m h) ∙ ap (take len) w.bytes ∙ take-take len i bs h; rest = w.rest ∙ d; same = w.same ∙ e }
+pub front_less : (len i room : ℕ) (bs out m : List ℕ) → len ≤ i → Front i room bs out m → Front len room bs out m
+front_less len i room bs out m h w =
+    record { bytes = sym (take-take len i m h) ∙ ap (take len) w.bytes ∙ take-take len i bs h; rest = w.rest; same = w.same }
 
 -- one more place
 module _ (f : ℕ → List ℕ) (os : List ℕ) (k : ℕ) (h : k < length os) where
@@ -153,11 +147,15 @@ part_room starts parts os n k p at o r h c e =
 pub part_long : (starts parts : List ℕ) (n p at : ℕ) → Part starts parts n p at → get_or starts (p + 1) 0 - get_or starts p 0 ≤ length (drop (get_or starts p 0) parts)
 part_long starts parts n p at x = omega (arith, x.forward, x.within, length-drop (get_or starts p 0) parts)
 
+-- what is lent of z bytes from one on is all there
+pub part_rest : (parts : List ℕ) (z from : ℕ) → length parts ≡ z → take (z - from) (drop from parts) ≡ drop from parts
+part_rest parts z from e = take_all (z - from) (drop from parts) (omega (arith, length-drop from parts))
+
 -- a part and its room
 pub fit : (starts parts m : List ℕ) (n p at : ℕ) → n ≤ length m → Part starts parts n p at
-    → Fit (get_or starts p 0) (get_or starts (p + 1) 0 - get_or starts p 0) (n - at) parts (lent at m)
+    → Fit (get_or starts (p + 1) 0 - get_or starts p 0) (n - at) (drop (get_or starts p 0) parts) (lent at m)
 fit starts parts m n p at h x =
-    record { there = omega (arith, x.forward, x.within); small = omega (arith, x.room); within = rw (length_lent at m) (omega arith) }
+    record { there = omega (arith, x.forward, x.within, length-drop (get_or starts p 0) parts); small = omega (arith, x.room); within = rw (length_lent at m) (omega arith) }
 
 -- WHERE THE PARTS ARE
 starts_at : (b : ℕ) (ss : List (List ℕ)) (p : ℕ) → p ≤ length ss → get_or (b ∷ ends_from b ss) p 0 ≡ b + length (joined (take p ss))

@@ -1,12 +1,13 @@
 -- The parts of a record that are handed to the writers are fields with a value in front. Assumes nothing.
 --     field_laid     what is laid of a field is its value
+--     due_or_none    a number that is there if it is due
 --     number_due, field_due, added_fits, added    one more parameter
 use Prim.Native.Nat.{ℕ, ◌+◌, ◌-◌, ◌^◌, ◌≤◌, ◌<◌}
 use mir.Val.{Fits}
 use mir.Syntax.{w64}
 use mathlib.Core.List.{List, [], ◌∷◌, ◌++◌}
 use mathlib.Core.Path.{◌≡◌, refl, ◌∙◌}
-use mathlib.Core.Bool.{Bool, true}
+use mathlib.Core.Bool.{Bool, true, false}
 use native.Mathlib.Omega.{arith}
 use lib.ListN.{length, take, drop, set, drop_of_length-le}
 use borrow.Author.Tests.{eqb-true, leb-true, le-leb, lt-ltb}
@@ -15,7 +16,8 @@ use Rattle.refusal.proofs.Laws.{all_at}
 use Rattle.connection_id.proofs.Laws.{cid_facts}
 use Rattle.record.specs.Optional.{OptionalConnectionId}
 use Rattle.record.specs.declared.ReservedTransportParameter.{ReservedTransportParameter}
-use Rattle.record.specs.Record.{formed_optional_cid, formed_reserved}
+use Rattle.std.specs.Bool.{then_some}
+use Rattle.record.specs.Record.{is_present, least, formed_optional_cid, formed_reserved}
 use Rattle.wire.specs.Wire.{put, due_value, due_number}
 use Rattle.laying.specs.Laying.{laid_number, laid_field}
 use Rattle.laying.proofs.Wide.{is_field, field_clear, number_clear}
@@ -44,6 +46,12 @@ pub token_field : (v : List ℕ) → length v ≡ 16 → Field 16 v
 token_field v l =
     let d : drop 16 v ≡ [] = drop_of_length-le v {i = 16} (omega arith) in
     record { long = omega arith; short = omega arith; within = omega arith; clear = rw d refl }
+
+-- a number that is there if it is due
+pub due_or_none : (due : Bool) (id x : ℕ) → due_number (is_present (then_some due x)) id (least (then_some due x)) ≡ due_number due id x
+unfolding due_number due_value
+due_or_none true id x = refl
+due_or_none false id x = refl
 
 -- ONE MORE PARAMETER, of a buffer that is z bytes long
 module _ {p at : ℕ} {st out : List ℕ} (x : Next p at st out) (z : ℕ) (e : length out ≡ z) where

@@ -75,7 +75,7 @@ optional_out_lem id None h f = number_is_due id 0 false h (omega arith)
 optional_out_lem id (Some x) h f = number_is_due id x true h (ltb-true _ _ f)
 
 -- a value of a kind, which is short
-widest_le : (k : Kind) → widest k ≤ 61
+pub widest_le : (k : Kind) → widest k ≤ 61
 unfolding widest
 widest_le number = omega arith
 widest_le flag = omega arith

@@ -59,8 +59,8 @@ unfoldable pub part_at : List ℕ → List ℕ → ℕ → List ℕ
 part_at starts parts p = take (get_or starts (p + 1) 0 - get_or starts p 0) (drop (get_or starts p 0) parts)
 
 -- a part, and sixteen bytes behind it; and room for it
-pub record Fit (from len room : ℕ) (parts out : List ℕ) : Type 0 where
-  pub there : from + len + 16 ≤ length parts
+pub record Fit (len room : ℕ) (part out : List ℕ) : Type 0 where
+  pub there : len + 16 ≤ length part
   pub small : len ≤ room
   pub within : room ≤ length out
 

@@ -16,11 +16,9 @@ ghost use Rattle.writer.specs.Laid.{five, Field, Adds, RoomFor, Before, part_at,
 
 use address::put_address;
 use catalogue::{
-    DEFAULTS, DISABLE_ACTIVE_MIGRATION, DISABLE_ACTIVE_MIGRATION_ID, GREASE_QUIC_BIT,
-    GREASE_QUIC_BIT_ID, IDS, INITIAL_SRC_CID, INITIAL_SRC_CID_ID, MAX_DATAGRAM_FRAME_SIZE,
-    MAX_DATAGRAM_FRAME_SIZE_ID, MAX_EXTENSION, MIN_ACK_DELAY, MIN_ACK_DELAY_ID, NUMBERS,
-    ORIGINAL_DST_CID, ORIGINAL_DST_CID_ID, PLACES, PREFERRED_ADDRESS, RESERVED, RETRY_SRC_CID,
-    RETRY_SRC_CID_ID, STATELESS_RESET_TOKEN, STATELESS_RESET_TOKEN_ID,
+    DEFAULTS, DISABLE_ACTIVE_MIGRATION, GREASE_QUIC_BIT, IDS, INITIAL_SRC_CID,
+    MAX_DATAGRAM_FRAME_SIZE, MAX_EXTENSION, MIN_ACK_DELAY, NUMBERS, ORIGINAL_DST_CID, PLACES,
+    PREFERRED_ADDRESS, RESERVED, RETRY_SRC_CID, STATELESS_RESET_TOKEN, STATELESS_RESET_TOKEN_ID,
 };
 use connection_id::ConnectionId;
 use laying::{lay_field, lay_number};
@@ -39,7 +37,7 @@ const BLOCK: usize = 16;
 const SCRATCH: usize = MAX_EXTENSION + 32;
 
 // An extension in catalogue order: parameters laid one after another, and zeros behind them, so that zeros may be stored behind a parameter: fields are stored
-// whole, and numbers without a branch on their width.
+// whole, and numbers without a branch on their width. Arrays of the longest extension: the library has no heap.
 #[derive(Drop)]
 struct Draft {
     // where the parameter of each place starts, and the last one ends
@@ -48,13 +46,16 @@ struct Draft {
 }
 
 // Each lays the parameter due at a place, if it is, behind the first `at` bytes, notes where the next place starts, and gives that. `at` is no field:
-// writing a full record took 99 instructions more by one.
+// writing a full record took 99 instructions more by one; and so what holds before a place is a clause of each, and no invariant. Three end in the same
+// two lines: a helper would be longer than what it saves. Those that several places have are inlined: as functions of their own, writing took 280 to 450
+// instructions more.
 impl Draft {
-    fn number(&mut self, at: usize, p: usize, due: bool, id: u64, x: u64) -> usize
+    #[inline(always)]
+    fn number(&mut self, at: usize, p: usize, o: Option<u64>) -> usize
         requires { Before p at self.old }
-        ensures { Adds (due_number due id x ∷ []) (p + 1) at self.old result self.new }
+        ensures { Adds (due_number (is_present o) (id_at p) (least o) ∷ []) (p + 1) at self.old result self.new }
     {
-        let end = at + lay_number(due, id, x, &mut self.parts[at..]);
+        let end = at + lay_number(o.is_some(), IDS[p], o.unwrap_or(0), &mut self.parts[at..]);
         self.starts[p + 1] = end;
         end
     }
@@ -77,14 +78,14 @@ impl Draft {
         end
     }
 
-    // Inlined: as a function of its own, writing a full record took some 25 instructions more.
     #[inline(always)]
-    fn cid(&mut self, at: usize, p: usize, id: u64, o: &Optional<ConnectionId>) -> usize
+    #[tactic(auto, unfolding(catalogue::specs::Catalogue::id_at, catalogue::specs::Catalogue::ids))]
+    fn cid(&mut self, at: usize, p: usize, o: &Optional<ConnectionId>) -> usize
         requires { (formed_optional_cid o.now ≡ true) × Before p at self.old }
-        ensures { Adds (due_value o.now.present id (cid_bytes o.now.value) ∷ []) (p + 1) at self.old result self.new }
+        ensures { Adds (due_value o.now.present (id_at p) (cid_bytes o.now.value) ∷ []) (p + 1) at self.old result self.new }
     {
         let n = usize::from(o.value.len);
-        self.field(at, p, o.present, id, n, &o.value.bytes)
+        self.field(at, p, o.present, IDS[p], n, &o.value.bytes)
     }
 
     fn reserved(&mut self, at: usize, x: &ReservedTransportParameter) -> usize
@@ -95,6 +96,7 @@ impl Draft {
         self.field(at, RESERVED, x.present, x.id, n, &x.payload)
     }
 
+    #[tactic(auto, using(crate::proofs::Parts::token_field), unfolding(catalogue::specs::Catalogue::id_at, catalogue::specs::Catalogue::ids))]
     fn token(&mut self, at: usize, t: &Optional<ResetToken>) -> usize
         requires { Before 12 at self.old }
         ensures { Adds (due_value t.now.present (id_at 12) t.now.value.bytes ∷ []) 13 at self.old result self.new }
@@ -109,30 +111,27 @@ impl Draft {
         )
     }
 
-    fn flag(&mut self, at: usize, p: usize, id: u64, flag: bool) -> usize
+    #[inline(always)]
+    #[tactic(auto, unfolding(catalogue::specs::Catalogue::id_at, catalogue::specs::Catalogue::ids))]
+    fn flag(&mut self, at: usize, p: usize, flag: bool) -> usize
         requires { Before p at self.old }
-        ensures { Adds (due_value flag id [] ∷ []) (p + 1) at self.old result self.new }
+        ensures { Adds (due_value flag (id_at p) [] ∷ []) (p + 1) at self.old result self.new }
     {
-        self.field(at, p, flag, id, 0, &[0; 8])
-    }
-
-    fn optional(&mut self, at: usize, p: usize, id: u64, o: Option<u64>) -> usize
-        requires { Before p at self.old }
-        ensures { Adds (due_number (is_present o) id (least o) ∷ []) (p + 1) at self.old result self.new }
-    {
-        self.number(at, p, o.is_some(), id, o.unwrap_or(0))
+        self.field(at, p, flag, IDS[p], 0, &[0; 8])
     }
 }
 
-// Each lays those due at some places, then at all of them.
+// Each lays those due at some places, then at all of them. Numbers go by place: they and their defaults are two tables. That the record is well formed is
+// asked of three: a type that says so would wrap it for these.
 impl Draft {
     fn numbers(&mut self, numbers: &[u64; NUMBERS]) -> usize
-        requires { (length numbers.now ≡ 11) × RoomFor (each (number_at numbers.now) 11) 0 self.old }
+        requires { RoomFor (each (number_at numbers.now) 11) 0 self.old }
         ensures { Adds (each (number_at numbers.now) 11) 1 0 self.old result self.new }
     {
         let mut at: usize = 0;
         for p in 0..NUMBERS {
-            at = self.number(at, p, numbers[p] != DEFAULTS[p], IDS[p], numbers[p]);
+            let due = numbers[p] != DEFAULTS[p];
+            at = self.number(at, p, due.then_some(numbers[p]));
         }
         at
     }
@@ -141,22 +140,10 @@ impl Draft {
         requires { (well_formed r.now ≡ true) × RoomFor (five r.now 11) at self.old }
         ensures { Adds (five r.now 11) 12 at self.old result self.new }
     {
-        let migration = r.disable_active_migration;
-        let datagram = r.max_datagram_frame_size;
         let a = self.reserved(at, &r.grease_transport_parameter);
         let b = self.token(a, &r.stateless_reset_token);
-        let c = self.flag(
-            b,
-            DISABLE_ACTIVE_MIGRATION,
-            DISABLE_ACTIVE_MIGRATION_ID,
-            migration,
-        );
-        let d = self.optional(
-            c,
-            MAX_DATAGRAM_FRAME_SIZE,
-            MAX_DATAGRAM_FRAME_SIZE_ID,
-            datagram,
-        );
+        let c = self.flag(b, DISABLE_ACTIVE_MIGRATION, r.disable_active_migration);
+        let d = self.number(c, MAX_DATAGRAM_FRAME_SIZE, r.max_datagram_frame_size);
         self.preferred(d, &r.preferred_address)
     }
 
@@ -164,16 +151,11 @@ impl Draft {
         requires { (well_formed r.now ≡ true) × RoomFor (five r.now 16) at self.old }
         ensures { Adds (five r.now 16) 17 at self.old result self.new }
     {
-        let a = self.cid(
-            at,
-            ORIGINAL_DST_CID,
-            ORIGINAL_DST_CID_ID,
-            &r.original_dst_cid,
-        );
-        let b = self.cid(a, INITIAL_SRC_CID, INITIAL_SRC_CID_ID, &r.initial_src_cid);
-        let c = self.cid(b, RETRY_SRC_CID, RETRY_SRC_CID_ID, &r.retry_src_cid);
-        let d = self.flag(c, GREASE_QUIC_BIT, GREASE_QUIC_BIT_ID, r.grease_quic_bit);
-        self.optional(d, MIN_ACK_DELAY, MIN_ACK_DELAY_ID, r.min_ack_delay)
+        let a = self.cid(at, ORIGINAL_DST_CID, &r.original_dst_cid);
+        let b = self.cid(a, INITIAL_SRC_CID, &r.initial_src_cid);
+        let c = self.cid(b, RETRY_SRC_CID, &r.retry_src_cid);
+        let d = self.flag(c, GREASE_QUIC_BIT, r.grease_quic_bit);
+        self.number(d, MIN_ACK_DELAY, r.min_ack_delay)
     }
 
     fn catalogue(&mut self, r: &TransportParameters) -> usize
@@ -186,25 +168,26 @@ impl Draft {
     }
 }
 
-// Stores the `len` bytes of `parts` from `from` on. Where sixteen more are still to come behind them, of the `room` there is, they are copied
-// sixteen at a time, over the end: no branch goes by how many of sixteen there are, which in an order of its own is guessed wrong.
-fn put_part(from: usize, len: usize, room: usize, parts: &[u8], out: &mut [u8])
-    requires { Fit from len room parts.now out.old }
-    ensures { Front len room (drop from parts.now) out.old out.new }
+// Stores the first `len` bytes of what lies there. Where sixteen more are still to come behind them, of the `room` there is, they are copied sixteen at
+// a time, over the end: no branch goes by how many of sixteen there are, which in an order of its own is guessed wrong.
+fn put_part(len: usize, room: usize, part: &[u8], out: &mut [u8])
+    requires { Fit len room part.now out.old }
+    ensures { Front len room part.now out.old out.new }
 {
     if room < len + BLOCK {
-        let to = from + len;
-        put_few(&parts[from..to], out);
+        put_few(&part[..len], out);
         return;
     }
-    put_block(from, parts, out);
+    put_few(&part[..BLOCK], out);
     for i in (BLOCK..len).step_by(BLOCK) {
-        put_block(from + i, parts, &mut out[i..]);
+        put_few(&part[i..i + BLOCK], &mut out[i..]);
     }
 }
 
 // Copies the bytes by a loop: `copy_from_slice` is a call for each part, most of them empty, and tests each time that the two are apart. By it writing a
-// small record in an order took 320 instructions more, others 110.
+// small record in an order took 320 instructions more, others 110. By index: over pairs of `zip` it is as long, and its proof would say of each reference
+// what it held at last.
+#[tactic(auto, using(wire::proofs::Stored::front_paste, crate::proofs::Ordered::copied))]
 fn put_few(bytes: &[u8], out: &mut [u8])
     requires { length bytes.now ≤ length out.old }
     ensures { out.new ≡ front bytes.now out.old }
@@ -214,33 +197,25 @@ fn put_few(bytes: &[u8], out: &mut [u8])
     }
 }
 
-fn put_block(from: usize, parts: &[u8], out: &mut [u8])
-    requires { (from + 16 ≤ length parts.now) × (16 ≤ length out.old) }
-    ensures { out.new ≡ front (take 16 (drop from parts.now)) out.old }
-{
-    let to = from + BLOCK;
-    put_few(&parts[from..to], out);
-}
-
-// Copies the `n` bytes that are laid.
 impl Draft {
-    // In an order.
+    // Copies the `n` bytes that are laid, in an order.
     fn put_ordered(&self, n: usize, order: &[u8; PLACES], out: &mut [u8]) -> usize
         requires { InOrder order.now self.now.starts self.now.parts × (n ≡ length (concat_of (part_at self.now.starts self.now.parts) order.now)) × (n ≤ length out.old) }
         ensures { Wrote (length out.old) (concat_of (part_at self.now.starts self.now.parts) order.now) out.old result out.new }
     {
         let mut at: usize = 0;
-        for k in 0..PLACES {
-            let p = usize::from(order[k]);
+        for place in order {
+            let p = usize::from(*place);
             let from = self.starts[p];
             let len = self.starts[p + 1] - from;
-            put_part(from, len, n - at, &self.parts, &mut out[at..]);
+            put_part(len, n - at, &self.parts[from..], &mut out[at..]);
             at += len;
         }
         at
     }
 
-    // In the order, if one is present.
+    // Copies them in the order, if one is present.
+    #[tactic(auto, using(wire::proofs::Stored::stored_short, crate::proofs::Answers::laid_count))]
     fn put(&self, n: usize, order: &WriteOrder, out: &mut [u8]) -> Result<usize, Refusal>
         requires { Ready n order.now.present order.now.places self.now.starts self.now.parts }
         ensures { (outcome_of result, out.new) ≡ store (bytes_in n order.now.present order.now.places self.now.starts self.now.parts) out.old }
@@ -256,6 +231,7 @@ impl Draft {
 }
 
 // Whether the places can be written so: where no order is present, they are in catalogue order.
+#[tactic(auto, using(order::proofs::Orders::in_catalogue), unfolding(crate::specs::Writing::order_of))]
 fn is_order(w: &WriteOrder) -> bool
     ensures { result ≡ permutation (order_of w.now) }
 {
@@ -264,7 +240,7 @@ fn is_order(w: &WriteOrder) -> bool
 
 // Writes the record to the front of `out`, in its order. It is laid in an array first, so that the count is known before a byte of `out` is
 // touched.
-#[tactic(auto, using(crate::proofs::Answers::write_ill, crate::proofs::Answers::write_invalid), unfolding(crate::specs::Writing::order_of))]
+#[tactic(auto, using(crate::proofs::Answers::write_ill, crate::proofs::Answers::write_invalid, words::proofs::Laws::zeros_replicate, order::proofs::Orders::in_catalogue, crate::proofs::Extension::longest, crate::proofs::Places::in_catalogue_order), unfolding(crate::specs::Writing::order_of))]
 pub fn write(r: TransportParameters, out: &mut [u8]) -> Result<usize, Refusal>
     ensures { (outcome_of result, out.new) ≡ write r out.old }
 {

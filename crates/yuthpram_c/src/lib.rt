@@ -1,4 +1,5 @@
-// The C interface, exported: each function of bindings/c/yuthpram.h is that of crate yuthpram, with its contract.
+// The C interface, exported: each function of bindings/c/yuthpram.h is that of crate yuthpram, with its contract. They stand in two crates because
+// one is a library or a static library, and replay calls them as a library's.
 #![tactic(auto)]
 
 ghost use Rattle.std.specs.Prelude.{◌≡◌};
@@ -67,7 +68,6 @@ pub extern "C" fn yuthpram_check_order(order: &[u8]) -> u8
     yuthpram::yuthpram_check_order(order)
 }
 
-// Its answer is a position or none: 6 comes with the position, and is no refusal of the call.
 #[unsafe(no_mangle)]
 pub extern "C" fn yuthpram_order_fault(order: &[u8], position: &mut usize) -> u8
     ensures { (result, position.new) ≡ order_position order.now position.old }

@@ -1,4 +1,12 @@
 // What the commands answer: each is a call of the library, and its result in words.
+ghost use Rattle.std.specs.Prelude.{◌≡◌, replicate};
+ghost use Rattle.varint.specs.Number.{read_number, write_number};
+ghost use Rattle.order.specs.Order.{order_fault};
+ghost use Rattle.reader.specs.Reading.{read};
+ghost use Rattle.tidy.specs.Tidying.{tidy};
+ghost use Rattle.by_image.specs.ByImage.{image_length, image_resume, image_check};
+ghost use Rattle.yuthpram_cli.specs.Statuses.{status_of, fault_status};
+
 use crate::Status;
 use catalogue::{MAX_EXTENSION, PLACES};
 use explain::{note_culprit, note_order_fault, note_reading, note_refusal};
@@ -9,13 +17,17 @@ use rules::Side;
 use text::out::{Count, HexBytes, Out};
 use varint::VarInt;
 
-fn refused(out: &mut Out, r: Refusal) -> Status {
+fn refused(out: &mut Out, r: Refusal) -> Status
+    ensures { result ≡ Status.Refused }
+{
     note_refusal(out, r);
     Status::Refused
 }
 
 // A refusal of reading, and what is at fault.
-fn unread(out: &mut Out, side: Side, r: Refusal, src: &[u8]) -> Status {
+fn unread(out: &mut Out, side: Side, r: Refusal, src: &[u8]) -> Status
+    ensures { result ≡ Status.Refused }
+{
     note_reading(out, side, r, src);
     Status::Refused
 }
@@ -38,7 +50,9 @@ fn say_hex(out: &mut Out, bytes: &[u8]) {
 }
 
 // Reads an extension, and shows it: before the record stands its length.
-pub fn read(out: &mut Out, side: Side, src: &[u8]) -> Status {
+pub fn read(out: &mut Out, side: Side, src: &[u8]) -> Status
+    ensures { result ≡ status_of (read side src.now) }
+{
     let parameters = match reader::read(side, src) {
         Ok(parameters) => parameters,
         Err(r) => return unread(out, side, r, src),
@@ -51,7 +65,9 @@ pub fn read(out: &mut Out, side: Side, src: &[u8]) -> Status {
 }
 
 // Tells whether an extension is accepted.
-pub fn check(out: &mut Out, side: Side, src: &[u8]) -> Status {
+pub fn check(out: &mut Out, side: Side, src: &[u8]) -> Status
+    ensures { result ≡ status_of (read side src.now) }
+{
     match reader::read(side, src) {
         Ok(_) => {
             out.say("accepted\n");
@@ -67,7 +83,9 @@ fn order_in(record: &[u8; RECORD_SIZE]) -> &[u8] {
 }
 
 // Tells what is wrong with an order.
-pub fn order_fault(out: &mut Out, order: &[u8]) -> Status {
+pub fn order_fault(out: &mut Out, order: &[u8]) -> Status
+    ensures { result ≡ fault_status (order_fault order.now) }
+{
     match order::order_fault(order) {
         None => {
             out.say("a permutation of 0 to 20\n");
@@ -96,7 +114,9 @@ pub fn write(out: &mut Out, record: &[u8; RECORD_SIZE]) -> Status {
 }
 
 // Tells the length of a record, by its image.
-pub fn length(out: &mut Out, record: &[u8]) -> Status {
+pub fn length(out: &mut Out, record: &[u8]) -> Status
+    ensures { result ≡ status_of (image_length «record».now) }
+{
     match by_image::length(record) {
         Ok(n) => {
             let count = Count(n);
@@ -108,7 +128,9 @@ pub fn length(out: &mut Out, record: &[u8]) -> Status {
 }
 
 // Tells whether a record may be resumed to from a remembered one, by the images of both, and if not, which limits it reduces.
-pub fn validate_resumption_from(out: &mut Out, record: &[u8], cached: &[u8]) -> Status {
+pub fn validate_resumption_from(out: &mut Out, record: &[u8], cached: &[u8]) -> Status
+    ensures { result ≡ status_of (image_resume «record».now cached.now) }
+{
     let Err(r) = by_image::validate_resumption_from(record, cached) else {
         out.say("accepted\n");
         return Status::Answered;
@@ -131,7 +153,9 @@ fn note_rule(out: &mut Out, side: Side, record: &[u8]) {
 }
 
 // Checks a record, by its image.
-pub fn check_record(out: &mut Out, side: Side, record: &[u8]) -> Status {
+pub fn check_record(out: &mut Out, side: Side, record: &[u8]) -> Status
+    ensures { result ≡ status_of (image_check «record».now side) }
+{
     let Err(r) = by_image::check(record, side) else {
         out.say("legal\n");
         return Status::Answered;
@@ -143,7 +167,9 @@ pub fn check_record(out: &mut Out, side: Side, record: &[u8]) -> Status {
     Status::Refused
 }
 
-pub fn tidy(out: &mut Out, side: Side, src: &[u8]) -> Status {
+pub fn tidy(out: &mut Out, side: Side, src: &[u8]) -> Status
+    ensures { result ≡ status_of (tidy side src.now (replicate MAX_EXTENSION 0)).0 }
+{
     let mut bytes = [0u8; MAX_EXTENSION];
     match tidy::tidy(side, src, &mut bytes) {
         Ok(n) => {
@@ -160,7 +186,9 @@ pub fn tidy(out: &mut Out, side: Side, src: &[u8]) -> Status {
     }
 }
 
-pub fn decode(out: &mut Out, src: &[u8]) -> Status {
+pub fn decode(out: &mut Out, src: &[u8]) -> Status
+    ensures { result ≡ status_of (read_number src.now) }
+{
     match VarInt::decode(src) {
         Ok((x, n)) => {
             let count = Count(n);
@@ -171,7 +199,9 @@ pub fn decode(out: &mut Out, src: &[u8]) -> Status {
     }
 }
 
-pub fn encode(out: &mut Out, x: u64) -> Status {
+pub fn encode(out: &mut Out, x: u64) -> Status
+    ensures { result ≡ status_of (write_number x (replicate 8 0)).0 }
+{
     let mut bytes = [0u8; 8];
     match VarInt(x).encode(&mut bytes) {
         Ok(n) => {

@@ -1,4 +1,6 @@
 // What --help says, the usage, and complaints.
+ghost use Rattle.std.specs.Prelude.{◌≡◌};
+
 use crate::Status;
 use crate::complaint::Complaint;
 use std::alloc::Global;
@@ -34,7 +36,9 @@ not show:
 Answers go to standard output; refusals, complaints, what tidying saved and the length of a record that is shown or written to standard
 error. Exit status: 0 answered, 1 refused, 2 not called as it should be, 3 the answer could not be written.\n";
 
-pub fn say_help(out: &mut Out) -> Status {
+pub fn say_help(out: &mut Out) -> Status
+    ensures { result ≡ Status.Answered }
+{
     out.say(USAGE);
     out.say(DETAILS);
     Status::Answered
@@ -59,7 +63,9 @@ fn note_unread(out: &mut Out, alloc: Global, what: &str, complaint: &Complaint<'
     }
 }
 
-pub fn complain(out: &mut Out, alloc: Global, complaint: &Complaint<'_>) -> Status {
+pub fn complain(out: &mut Out, alloc: Global, complaint: &Complaint<'_>) -> Status
+    ensures { result ≡ Status.Misused }
+{
     match complaint {
         Complaint::Unread(what, _) => note_unread(out, alloc, what, complaint),
         Complaint::NotUtf8(path) => {

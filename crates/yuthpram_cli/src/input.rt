@@ -1,4 +1,6 @@
 // The words of the command line, and a command's input.
+ghost use Rattle.std.specs.Prelude.{◌≡◌, ◌+◌, ◌<◌, ◌≤◌, length, vec_len, nat_lt, IfOk, IfErr, IsErrOf};
+
 use crate::complaint::Complaint;
 use image::RECORD_SIZE;
 use rules::Side;
@@ -6,7 +8,7 @@ use std::alloc::{AllocError, Global};
 use std::env::{Env, FillError};
 use std::fs;
 use std::io::Read;
-use text::{parse_decimal, parse_hex, word};
+use text::{parse_decimal, parse_hex, words_of};
 
 // The limits, in bytes, in characters of hexadecimal text, and in entries of an order.
 const LIMIT: usize = 65536;
@@ -33,6 +35,7 @@ impl<'r> Args<'r> {
         let alloc = rt.alloc();
         let mut words = Vec::new(alloc);
         let mut buffer = vec![in alloc; 0u8; TEXT_LIMIT]?;
+        // By index: `env::args` gives Strings, and a path need not be UTF-8.
         for i in 0..usize::MAX {
             match rt.arg(i, buffer.as_mut_slice()) {
                 Ok(n) => {
@@ -50,17 +53,24 @@ impl<'r> Args<'r> {
         self.rt.alloc()
     }
 
-    pub fn is_given(&self, i: usize) -> bool {
+    pub fn is_given(&self, i: usize) -> bool
+        ensures { result ≡ nat_lt i (vec_len self.now.words) }
+    {
         i < self.words.len()
     }
 
     // Whether there are words behind word `i`.
-    pub fn is_followed(&self, i: usize) -> bool {
+    pub fn is_followed(&self, i: usize) -> bool
+        ensures { result ≡ nat_lt (i + 1) (vec_len self.now.words) }
+    {
         self.is_given(i.saturating_add(1))
     }
 
     // Word `i`; empty if there is none, or if it has more than `limit` bytes.
-    fn word(&self, i: usize, limit: usize) -> &[u8] {
+    fn word(&self, i: usize, limit: usize) -> &[u8]
+        ensures there { vec_len self.now.words ≤ i → length result.now ≡ 0 }
+        ensures short { length result.now ≤ limit }
+    {
         match self.words.get(i) {
             Some(Some(word)) if word.len() <= limit => word.as_slice(),
             _ => &[],
@@ -68,17 +78,25 @@ impl<'r> Args<'r> {
     }
 
     // Word `i`, as the name of a command, an option or a side.
-    pub fn name(&self, i: usize) -> &[u8] {
+    pub fn name(&self, i: usize) -> &[u8]
+        ensures there { vec_len self.now.words ≤ i → length result.now ≡ 0 }
+        ensures short { length result.now ≤ 262144 }
+    {
         self.word(i, TEXT_LIMIT)
     }
 
     // The number that word `i` is.
-    pub fn number(&self, i: usize) -> Option<u64> {
+    #[tactic(auto, using(text::proofs::Decimals::empty))]
+    pub fn number(&self, i: usize) -> Option<u64>
+        ensures { vec_len self.now.words ≤ i → result ≡ None }
+    {
         parse_decimal(self.word(i, DIGIT_LIMIT))
     }
 
     // The side that word 2 names.
-    pub fn side(&self) -> Result<Side, Complaint<'_>> {
+    pub fn side(&self) -> Result<Side, Complaint<'_>>
+        ensures { IfErr result (λ e. e ≡ Complaint.NoSide) }
+    {
         match self.name(2) {
             b"client" => Ok(Side::Client),
             b"server" => Ok(Side::Server),
@@ -103,7 +121,9 @@ impl<'r> Args<'r> {
     }
 
     // What standard input holds.
-    fn standard_input(&self, limit: usize) -> Result<Vec<u8>, Complaint<'_>> {
+    fn standard_input(&self, limit: usize) -> Result<Vec<u8>, Complaint<'_>>
+        ensures { IfOk result (λ bytes. vec_len bytes ≤ limit) }
+    {
         read_all(self.alloc(), self.rt.stdin(), limit)
     }
 
@@ -124,7 +144,9 @@ impl<'r> Args<'r> {
     }
 
     // The same of the last word.
-    pub fn last_record_at(&self, i: usize) -> Result<[u8; RECORD_SIZE], Complaint<'_>> {
+    pub fn last_record_at(&self, i: usize) -> Result<[u8; RECORD_SIZE], Complaint<'_>>
+        ensures { i + 1 < vec_len self.now.words → IsErrOf result Complaint.Surplus }
+    {
         if self.is_followed(i) {
             return Err(Complaint::Surplus);
         }
@@ -141,7 +163,9 @@ impl<'r> Args<'r> {
     }
 
     // Bytes, in hexadecimal by the words from word `start` on or in standard input, or by --raw as standard input has them.
-    pub fn bytes_at(&self, start: usize) -> Result<Vec<u8>, Complaint<'_>> {
+    pub fn bytes_at(&self, start: usize) -> Result<Vec<u8>, Complaint<'_>>
+        ensures { IfOk result (λ bytes. vec_len bytes ≤ 65536) }
+    {
         if let b"--raw" = self.name(start) {
             if self.is_followed(start) {
                 return Err(Complaint::Surplus);
@@ -156,20 +180,24 @@ impl<'r> Args<'r> {
     }
 
     // The entries of an order that the words from word `start` on are, or standard input lists: decimal numbers below 256.
-    pub fn entries_at(&self, start: usize) -> Result<Vec<u8>, Complaint<'_>> {
+    pub fn entries_at(&self, start: usize) -> Result<Vec<u8>, Complaint<'_>>
+        ensures { IfOk result (λ entries. vec_len entries ≤ 255) }
+    {
         let text = self.text_at(start, LIMIT)?;
         let mut entries = Vec::new(self.alloc());
-        for k in 0..=ENTRY_LIMIT {
-            let digits = word(text.as_slice(), k, b' ');
-            if digits.is_empty() {
-                return Ok(entries);
-            }
+        for (k, digits) in words_of(text.as_slice(), b' ')
+            .take(ENTRY_LIMIT + 1)
+            .enumerate()
+        {
             match parse_decimal(digits) {
                 Some(x) if x < 256 => entries.push(x as u8)?,
                 _ => return Err(Complaint::NoEntry(k)),
             }
         }
-        Err(Complaint::ManyEntries)
+        if ENTRY_LIMIT < entries.len() {
+            return Err(Complaint::ManyEntries);
+        }
+        Ok(entries)
     }
 }
 
@@ -178,7 +206,9 @@ fn read_all<'a, R: Read + Drop>(
     alloc: Global,
     source: R,
     limit: usize,
-) -> Result<Vec<u8>, Complaint<'a>> {
+) -> Result<Vec<u8>, Complaint<'a>>
+    ensures { IfOk result (λ bytes. vec_len bytes ≤ limit) }
+{
     let mut bytes = Vec::new(alloc);
     let read = source
         .take((limit as u64).saturating_add(1))

@@ -7,7 +7,7 @@ use lib.Seq.{sets}
 use Rattle.words.specs.Words.{bytes_of}
 use Rattle.record.specs.Values.{of_address}
 use Rattle.image.specs.Image.{family_parts}
-use Rattle.image.proofs.Stores.{put, behind, done, laid, flag_stored, joined_size}
+use Rattle.image.proofs.Stores.{put, behind, done, laid, flag_stored}
 use Rattle.image.proofs.put_family.Goals as goal
 
 pub returns-clause-stored : goal.returns-clause-stored
@@ -18,6 +18,3 @@ returns-clause-stored g c =
     laid c.args.out.now at (family_parts (of_address a))
     (behind {k = at + 1 + g.row.N} c.put_behind.ensures.stored (flag_stored a.present c.from.ensures) refl (omega arith)
     (put (c.put_bytes.ensures ∙ ap (sets c.put_behind.new.out (at + 1 + g.row.N)) port) refl done))
-
-pub returns-clause-size : goal.returns-clause-size
-returns-clause-size g c = omega (arith, joined_size (family_parts (of_address c.args.a.now)))

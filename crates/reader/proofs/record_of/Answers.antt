@@ -3,30 +3,30 @@ use native.Mathlib.Omega.{arith}
 use mathlib.Core.Path.{refl, ◌∙◌}
 use Rattle.catalogue.specs.Catalogue.{cid, token, address, kind_at, kinds, other_kinds}
 use Rattle.record.proofs.Defaults.{reserved_absent, order_absent}
-use Rattle.index.proofs.Parts.{sound_within}
+use Rattle.index.proofs.Parts.{of_bytes}
 use Rattle.reader.specs.Kept.{record_from}
 use Rattle.reader.proofs.Indexed.{kept_fits, no_number, cid_no, token_no, address_no}
 use Rattle.reader.proofs.record_of.Goals as goal
 
 pub cid_in-requires : goal.cid_in-requires
 unfolding kind_at kinds other_kinds
-cid_in-requires c = rw (c.value.ensures ∙ sound_within _ _ 17 (omega arith) (no_number 17 cid refl cid_no) c.requires) (kept_fits cid _ _ c.requires 17 refl cid_no)
+cid_in-requires c = rw (c.value.ensures ∙ of_bytes _ _ 17 (omega arith) (no_number 17 cid refl cid_no)) (kept_fits cid _ _ c.args.kept.now.sound 17 refl cid_no)
 
 pub cid_in-requires-2 : goal.cid_in-requires-2
 unfolding kind_at kinds other_kinds
-cid_in-requires-2 c = rw (c.value-2.ensures ∙ sound_within _ _ 16 (omega arith) (no_number 16 cid refl cid_no) c.requires) (kept_fits cid _ _ c.requires 16 refl cid_no)
+cid_in-requires-2 c = rw (c.value-2.ensures ∙ of_bytes _ _ 16 (omega arith) (no_number 16 cid refl cid_no)) (kept_fits cid _ _ c.args.kept.now.sound 16 refl cid_no)
 
 pub cid_in-requires-3 : goal.cid_in-requires-3
 unfolding kind_at kinds other_kinds
-cid_in-requires-3 c = rw (c.value-3.ensures ∙ sound_within _ _ 18 (omega arith) (no_number 18 cid refl cid_no) c.requires) (kept_fits cid _ _ c.requires 18 refl cid_no)
+cid_in-requires-3 c = rw (c.value-3.ensures ∙ of_bytes _ _ 18 (omega arith) (no_number 18 cid refl cid_no)) (kept_fits cid _ _ c.args.kept.now.sound 18 refl cid_no)
 
 pub token_in-requires : goal.token_in-requires
 unfolding kind_at kinds other_kinds
-token_in-requires c = rw (c.value-4.ensures ∙ sound_within _ _ 12 (omega arith) (no_number 12 token refl token_no) c.requires) (kept_fits token _ _ c.requires 12 refl token_no)
+token_in-requires c = rw (c.value-4.ensures ∙ of_bytes _ _ 12 (omega arith) (no_number 12 token refl token_no)) (kept_fits token _ _ c.args.kept.now.sound 12 refl token_no)
 
 pub address_in-requires : goal.address_in-requires
 unfolding kind_at kinds other_kinds
-address_in-requires c = rw (c.value-5.ensures ∙ sound_within _ _ 15 (omega arith) (no_number 15 address refl address_no) c.requires) (kept_fits address _ _ c.requires 15 refl address_no)
+address_in-requires c = rw (c.value-5.ensures ∙ of_bytes _ _ 15 (omega arith) (no_number 15 address refl address_no)) (kept_fits address _ _ c.args.kept.now.sound 15 refl address_no)
 
 pub returns : goal.returns
 unfolding record_from kind_at kinds other_kinds
@@ -38,17 +38,17 @@ returns c =
       c.is_met.ensures,
       c.number.ensures,
       c.cid_in.ensures,
-      c.value.ensures ∙ sound_within _ _ 17 (omega arith) (no_number 17 cid refl cid_no) c.requires,
+      c.value.ensures ∙ of_bytes _ _ 17 (omega arith) (no_number 17 cid refl cid_no),
       c.is_met-2.ensures,
       c.number-2.ensures,
       c.cid_in-2.ensures,
-      c.value-2.ensures ∙ sound_within _ _ 16 (omega arith) (no_number 16 cid refl cid_no) c.requires,
+      c.value-2.ensures ∙ of_bytes _ _ 16 (omega arith) (no_number 16 cid refl cid_no),
       c.cid_in-3.ensures,
-      c.value-3.ensures ∙ sound_within _ _ 18 (omega arith) (no_number 18 cid refl cid_no) c.requires,
+      c.value-3.ensures ∙ of_bytes _ _ 18 (omega arith) (no_number 18 cid refl cid_no),
       c.token_in.ensures,
-      c.value-4.ensures ∙ sound_within _ _ 12 (omega arith) (no_number 12 token refl token_no) c.requires,
+      c.value-4.ensures ∙ of_bytes _ _ 12 (omega arith) (no_number 12 token refl token_no),
       c.address_in.ensures,
-      c.value-5.ensures ∙ sound_within _ _ 15 (omega arith) (no_number 15 address refl address_no) c.requires,
+      c.value-5.ensures ∙ of_bytes _ _ 15 (omega arith) (no_number 15 address refl address_no),
       reserved_absent c.default.result x.0 x.1.0 x.1.1.0 x.1.1.1,
       order_absent c.default-2.result o.0 o.1,
     )

@@ -1,12 +1,9 @@
 -- `parse_hex` meets its contract. Assumes nothing.
 use Prim.Native.Nat.{◌+◌}
 use native.Mathlib.Omega.{arith}
-use Rattle.text.proofs.Hexes.{Met, met_none, past_gap, past_digit, is_strange, is_long, is_odd, is_bytes}
+use Rattle.text.proofs.Hexes.{Met, past_gap, past_digit, is_strange, is_long, is_odd, is_bytes}
 use Rattle.text.proofs.parse_hex.Goals as goal
 use Rattle.text.proofs.parse_hex.Goals.{in-Digit+else-not-put_digit, in-Gap}
-
-pub loop-i-init : goal.loop-i-init
-loop-i-init c = (omega arith, met_none _ _ _ _)
 
 pub returns-in-Other : goal.returns-in-Other
 returns-in-Other c =

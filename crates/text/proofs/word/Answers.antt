@@ -1,12 +1,21 @@
 -- `word` meets its contract. Assumes nothing.
-use Prim.Native.Nat.{suc, ◌+◌, ◌-◌}
-use mathlib.Core.Path.{◌≡◌}
-use native.Mathlib.Omega.{arith}
+use Rattle.std.proofs.Common.{◌≡◌, refl, ℕ, zero, suc, List, [], ◌∷◌, get_or, Option, Some, None, Bor}
+use Rattle.std.specs.Prelude.{slice_get, unwrap_or}
+use Rattle.std.specs.Option.{option_map}
+use Rattle.std.proofs.lemmas.Iterator.Consumers.{nth_from_yields_List, YieldsList-from_first}
+use Rattle.text.specs.Text.{words_in}
+use Rattle.text.proofs.Splits.{nth_word}
 use Rattle.text.proofs.word.Goals as goal
 
-pub loop-i-preserved : goal.loop-i-preserved
-loop-i-preserved c =
-    let a = c.args in
-    let l = c.loop-i in
-    let e : a.k - l._i ≡ suc (a.k - (l._i + 1)) = omega arith in
-    rw (c.split_word.ensures.rest) (rw e at l.invariant)
+-- a text of a list, or nothing
+given : (r : Option (Bor (List ℕ))) (d : Bor (List ℕ)) (all : List (List ℕ)) (k : ℕ) → option_map (λ x. x.now) r ≡ slice_get all k → (unwrap_or r d).now ≡ get_or all k d.now
+given None d [] k e = refl
+given (Some x) d [] k e = cc
+given None d (y ∷ all) zero e = cc
+given (Some x) d (y ∷ all) zero e = cc
+given r d (y ∷ all) (suc k) e = given r d all k e
+
+pub returns : goal.returns
+returns c =
+    let e = nth_from_yields_List c.nth.result c.nth.new.self c.args.k c.nth.ensures.ran (YieldsList-from_first (λ x. x.now) (λ words. words_in words.sep words.rest.now) _ refl) in
+    rw (c.unwrap_or.ensures, given c.nth.result _ _ c.args.k e, c.words_of.ensures.0, c.words_of.ensures.1) (nth_word c.args.sep c.args.k c.args.text.now)

@@ -14,7 +14,7 @@ use Rattle.tidy.proofs.put_others.Goals as goal
 
 pub loop-place-init : goal.loop-place-init
 unfolding each laid
-loop-place-init c = (c.requires.1, refl)
+loop-place-init c = (c.requires, refl)
 
 pub overflow_add-at : goal.overflow_add-at
 overflow_add-at c =
@@ -28,7 +28,7 @@ loop-place-preserved c =
     let i : 12 + (l.place - 12) ≡ l.place = omega arith in
     let n : l.place + 1 - 12 ≡ l.place - 12 + 1 = omega arith in
     let k = put_behind _ _ _ _ _ l.invariant.0 c.put_at-at.ensures in
-    (k.within, rw n (laid_more (λ j. piece_for (id_at (12 + j)) a.src.now (found_of a.entries.now) (12 + j)) (l.place - 12) 12 a.start l.at _ a.out.now [] l.out [] _ [] l.invariant.1 (rw i (laid_one _ _ _ _ _ _ [] c.put_at-at.ensures))))
+    (k.within, rw n (laid_more (λ j. piece_for (id_at (12 + j)) a.kept.now.src.now (found_of a.kept.now.entries) (12 + j)) (l.place - 12) 12 a.start l.at _ a.out.now [] l.out [] _ [] l.invariant.1 (rw i (laid_one _ _ _ _ _ _ [] c.put_at-at.ensures))))
 
 pub returns : goal.returns
 unfolding others

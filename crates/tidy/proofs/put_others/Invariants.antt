@@ -13,4 +13,4 @@ use Rattle.tidy.proofs.put_others.Given as goal
 abbrev pub invariant-loop-place : goal.invariant-loop-place
 invariant-loop-place l =
     (l.at ≤ length l.out)
-    × ((l.at, l.out, []) ≡ laid (each (λ j. piece_for (id_at (12 + j)) l.src (found_of l.entries) (12 + j)) (l.place - 12)) 12 l.start l.initial.out [])
+    × ((l.at, l.out, []) ≡ laid (each (λ j. piece_for (id_at (12 + j)) l.kept.src.now (found_of l.kept.entries) (12 + j)) (l.place - 12)) 12 l.start l.initial.out [])

@@ -14,7 +14,7 @@ returns-then-is_marked-2 c = let a = c.args in for_place a.place cid a.start a.v
 
 pub returns-then-is_marked-3 : goal.returns-then-is_marked-3
 unfolding illegal fits kept_of
-returns-then-is_marked-3 c = let a = c.args in for_place a.place flag a.start a.v.now _ (flag_at a.place (sym c.is_marked-3.ensures ∙ c.if-is_marked-3.true)) (c.fits_if-then-is_marked-3.ensures ∙ by_length a.start a.v.now flag _ refl refl refl)
+returns-then-is_marked-3 c = let a = c.args in for_place a.place flag a.start a.v.now _ (flag_at a.place (sym c.is_marked-3.ensures ∙ c.if-is_marked-3.true)) (c.fits_if-then-is_marked-3.ensures ∙ rw c.is_empty.ensures (by_length a.start a.v.now flag _ refl refl refl))
 
 pub returns-then-place-eq-STATELESS_RESET_TOKEN : goal.returns-then-place-eq-STATELESS_RESET_TOKEN
 unfolding illegal fits kept_of

@@ -4,11 +4,5 @@ use native.Mathlib.Omega.{arith}
 use Rattle.varint.proofs.Word.{bits_range, read_word}
 use Rattle.varint.proofs.wide_of.Goals as goal
 
-pub overflow_sub-result : goal.overflow_sub-result
-overflow_sub-result c = (bits_range (c.args.word / 2 ^ 62) (omega arith)).1
-
-pub overflow_shr-result : goal.overflow_shr-result
-overflow_shr-result c = omega (arith, bits_range (c.args.word / 2 ^ 62) (omega arith))
-
 pub returns : goal.returns
 returns c = (read_word c.args.word (omega arith), (bits_range (c.args.word / 2 ^ 62) (omega arith)).2)

@@ -1,25 +1,16 @@
 -- `writer::write` meets its contract: the tests that led to each `return` pick the case of the definition. Assumes nothing.
 use native.Mathlib.Omega.{arith}
-use mathlib.Core.Path.{◌≡◌, refl, ap, ◌∙◌}
+use mathlib.Core.Path.{◌≡◌, ap, ◌∙◌}
 use mathlib.Core.Bool.{true}
 use mathlib.Core.List.{List}
 use Prim.Native.Nat.{ℕ, ◌+◌}
 use lib.ListN.{replicate}
 use Rattle.refusal.specs.Outcome.{store}
-use Rattle.words.proofs.Laws.{zeros_replicate}
 use Rattle.record.specs.Record.{well_formed}
-use Rattle.order.specs.Order.{permutation, catalogue_order}
-use Rattle.order.proofs.Orders.{in_catalogue}
-use Rattle.writer.proofs.Extension.{longest}
+use Rattle.order.specs.Order.{permutation}
 use Rattle.writer.specs.Writing.{max_extension, order_of}
-use Rattle.writer.proofs.Places.{in_catalogue_order}
 use Rattle.writer.proofs.Answers.{due, ready, write_stored}
 use Rattle.writer.proofs.write.Goals as goal
-
-pub catalogue-n-requires : goal.catalogue-n-requires
-catalogue-n-requires c =
-    let w : well_formed c.args.r ≡ true = grind arith in
-    (w, record { noted = refl; within = rw (in_catalogue_order c.args.r) (omega (arith, longest _ catalogue_order w in_catalogue)); long = omega arith; clear = zeros_replicate 346 })
 
 pub put-requires : goal.put-requires
 unfolding order_of

@@ -3,14 +3,10 @@ use Rattle.refusal.specs.Outcome.{accepted}
 use Prim.Native.Nat.{◌/◌, ◌<◌}
 use lib.ListN.{length, get_or}
 use mathlib.Core.Path.{◌≡◌, refl, ap, sym, ◌∙◌}
-use Rattle.varint.proofs.Bytes.{read_none, read_whole}
+use Rattle.varint.proofs.Bytes.{read_whole}
 use native.Mathlib.Omega.{arith}
 use borrow.Author.Rules.{rules}
-use borrow.Author.Tests.{eqb-true}
 use Rattle.varint.proofs.VarInt.decode.Goals as goal
-
-pub returns-then-is_empty : goal.returns-then-is_empty
-returns-then-is_empty c = read_none _ (eqb-true _ _ (sym c.if-is_empty.ensures))
 
 pub returns-then-tag-eq0 : goal.returns-then-tag-eq0
 returns-then-tag-eq0 c =

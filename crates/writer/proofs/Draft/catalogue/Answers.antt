@@ -1,12 +1,12 @@
 -- `writer::Draft::catalogue` meets its contract: one part after another. Assumes nothing.
 use Rattle.writer.proofs.Laid.{room_front, room_then}
-use Rattle.writer.proofs.Places.{formed, room_all, whole_catalogue}
+use Rattle.writer.proofs.Places.{room_all, whole_catalogue}
 use Rattle.writer.proofs.Draft.catalogue.Goals as goal
 
 pub numbers-a-requires : goal.numbers-a-requires
 numbers-a-requires c =
     let l = c.args.self.now in
-    ((formed _ c.requires.0).numbers, room_front _ _ _ _ _ (room_all _ c.requires.0 0 l.starts l.parts c.requires.1))
+    room_front _ _ _ _ _ (room_all _ c.requires.0 0 l.starts l.parts c.requires.1)
 
 pub places_11_to_15-b-requires : goal.places_11_to_15-b-requires
 places_11_to_15-b-requires c =

@@ -15,14 +15,14 @@ pub flag-c-requires : goal.flag-c-requires
 unfolding id_at ids
 flag-c-requires c = room_next (room_step 13 (room_step 12 (room_11 _ c.requires.0 _ _ _ c.requires.1) c.reserved-a.ensures) c.token-b.ensures) 13 (omega arith)
 
-pub optional-d-requires : goal.optional-d-requires
+pub number-d-requires : goal.number-d-requires
 unfolding id_at ids
-optional-d-requires c = room_next (room_step 14 (room_step 13 (room_step 12 (room_11 _ c.requires.0 _ _ _ c.requires.1) c.reserved-a.ensures) c.token-b.ensures) c.flag-c.ensures) 14 (omega arith)
+number-d-requires c = room_next (room_step 14 (room_step 13 (room_step 12 (room_11 _ c.requires.0 _ _ _ c.requires.1) c.reserved-a.ensures) c.token-b.ensures) c.flag-c.ensures) 14 (omega arith)
 
 pub preferred-requires : goal.preferred-requires
 unfolding id_at ids
-preferred-requires c = ((formed _ c.requires.0).address, room_next (room_step 15 (room_step 14 (room_step 13 (room_step 12 (room_11 _ c.requires.0 _ _ _ c.requires.1) c.reserved-a.ensures) c.token-b.ensures) c.flag-c.ensures) c.optional-d.ensures) 15 (omega arith))
+preferred-requires c = ((formed _ c.requires.0).address, room_next (room_step 15 (room_step 14 (room_step 13 (room_step 12 (room_11 _ c.requires.0 _ _ _ c.requires.1) c.reserved-a.ensures) c.token-b.ensures) c.flag-c.ensures) c.number-d.ensures) 15 (omega arith))
 
 pub returns : goal.returns
 unfolding id_at ids
-returns c = laid_11 _ c.requires.0 12 _ _ _ (laid_step _ _ 12 _ _ _ c.reserved-a.ensures (laid_step _ _ 13 _ _ _ c.token-b.ensures (laid_step _ _ 14 _ _ _ c.flag-c.ensures (laid_step _ _ 15 _ _ _ c.optional-d.ensures c.preferred.ensures))))
+returns c = laid_11 _ c.requires.0 12 _ _ _ (laid_step _ _ 12 _ _ _ c.reserved-a.ensures (laid_step _ _ 13 _ _ _ c.token-b.ensures (laid_step _ _ 14 _ _ _ c.flag-c.ensures (laid_step _ _ 15 _ _ _ c.number-d.ensures c.preferred.ensures))))
