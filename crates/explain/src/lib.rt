@@ -1,6 +1,9 @@
 // Says what a refusal means and what is at fault: of an extension which parameter, at which byte it starts, and why; of an order which entry.
 #![tactic(auto)]
 
+ghost use Rattle.text.specs.declared.out.Stream.{Stream};
+ghost use Rattle.text.specs.Printing.{Becomes};
+
 use catalogue::{
     ACK_DELAY_EXPONENT, ACTIVE_CONNECTION_ID_LIMIT, DISABLE_ACTIVE_MIGRATION, GREASE_QUIC_BIT,
     INITIAL_MAX_STREAMS_BIDI, INITIAL_MAX_STREAMS_UNI, INITIAL_SRC_CID, MAX_ACK_DELAY,
@@ -22,7 +25,9 @@ struct Culprit {
     fault: Fault,
 }
 
-pub fn note_refusal(out: &mut Out, r: Refusal) {
+pub fn note_refusal(out: &mut Out, r: Refusal)
+    ensures { Becomes Stream.Error out.old.fate out.new.fate }
+{
     let number = r.number();
     out.note(format_args!("refused {number}: {r}\n"));
 }
@@ -105,7 +110,10 @@ fn misfit(place: usize) -> &'static str {
 }
 
 // Which parameter it is, and what is wrong with it; nothing of one that cannot be read.
-fn note_cause(out: &mut Out, side: Side, c: Culprit) {
+#[tactic(auto, using(text::proofs::Printing::unchanged, text::proofs::Printing::becomes_then))]
+fn note_cause(out: &mut Out, side: Side, c: Culprit)
+    ensures { Becomes Stream.Error out.old.fate out.new.fate }
+{
     let Some(id) = c.id else {
         return;
     };
@@ -120,7 +128,10 @@ fn note_cause(out: &mut Out, side: Side, c: Culprit) {
 }
 
 // A refusal of reading, and its cause.
-pub fn note_reading(out: &mut Out, side: Side, r: Refusal, src: &[u8]) {
+#[tactic(auto, using(text::proofs::Printing::unchanged, text::proofs::Printing::becomes_then))]
+pub fn note_reading(out: &mut Out, side: Side, r: Refusal, src: &[u8])
+    ensures { Becomes Stream.Error out.old.fate out.new.fate }
+{
     note_refusal(out, r);
     let Some(c) = locate(side, src) else {
         return;
@@ -135,7 +146,10 @@ pub fn note_reading(out: &mut Out, side: Side, r: Refusal, src: &[u8]) {
 }
 
 // The cause alone, of a record's extension. If the extension is accepted, no value rule is broken: then a family that is given is all zero.
-pub fn note_culprit(out: &mut Out, side: Side, src: &[u8]) {
+#[tactic(auto, using(text::proofs::Printing::unchanged, text::proofs::Printing::becomes_then))]
+pub fn note_culprit(out: &mut Out, side: Side, src: &[u8])
+    ensures { Becomes Stream.Error out.old.fate out.new.fate }
+{
     if !is_broken(side, src) {
         out.note("preferred_address: a family of zeros and port 0\n");
     } else if let Some(c) = locate(side, src) {
@@ -144,7 +158,10 @@ pub fn note_culprit(out: &mut Out, side: Side, src: &[u8]) {
 }
 
 // The first fault of an order: its position and, unless entries are only missing, the entry there.
-pub fn note_order_fault(out: &mut Out, order: &[u8]) {
+#[tactic(auto, using(text::proofs::Printing::unchanged, text::proofs::Printing::becomes_then))]
+pub fn note_order_fault(out: &mut Out, order: &[u8])
+    ensures { Becomes Stream.Error out.old.fate out.new.fate }
+{
     let Some(i) = order::order_fault(order) else {
         return;
     };

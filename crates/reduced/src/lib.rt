@@ -1,6 +1,9 @@
 // Says which limits a record reduces that is resumed to from a remembered one, by their images.
 #![tactic(auto)]
 
+ghost use Rattle.text.specs.declared.out.Stream.{Stream};
+ghost use Rattle.text.specs.Printing.{Becomes};
+
 use catalogue::{
     ACTIVE_CONNECTION_ID_LIMIT, GREASE_QUIC_BIT, INITIAL_MAX_DATA,
     INITIAL_MAX_STREAM_DATA_BIDI_LOCAL, INITIAL_MAX_STREAM_DATA_BIDI_REMOTE,
@@ -68,7 +71,10 @@ impl Display for Limit {
 }
 
 // The limits that a record reduces, by its image and that of the remembered one: what each was, and what it is.
-pub fn note_reduced(out: &mut Out, new: &[u8], cached: &[u8]) {
+#[tactic(auto, using(text::proofs::Printing::unchanged, text::proofs::Printing::becomes_then))]
+pub fn note_reduced(out: &mut Out, new: &[u8], cached: &[u8])
+    ensures { Becomes Stream.Error out.old.fate out.new.fate }
+{
     for (place, row) in ROWS.iter().enumerate() {
         let now = limit_in(*row, new);
         let was = limit_in(*row, cached);

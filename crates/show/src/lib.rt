@@ -124,6 +124,7 @@ fn show_parts(out: &mut Out, image: &[u8]) {
 }
 
 // The places of the catalogue, without the reserved parameter's; the parts of an address behind it, if it is there.
+// No clause: what a stream is given has no definition here, and of an answer any fate may come.
 pub fn show(out: &mut Out, image: &[u8]) {
     for (i, row) in ROWS.iter().enumerate().take(PLACES) {
         match row.0 {
