@@ -17,10 +17,10 @@
 extern "C" {
 #endif
 
-/* The refusals: name, number, meaning. MALFORMED and ILLEGAL_VALUE travel as TRANSPORT_PARAMETER_ERROR (0x08), LIMIT_REDUCED as
- * PROTOCOL_VIOLATION (0x0a). */
+/* The refusals: name, number, meaning. MALFORMED, ILLEGAL_VALUE, CUT, MISFIT and SECOND_COPY travel as TRANSPORT_PARAMETER_ERROR (0x08),
+ * LIMIT_REDUCED as PROTOCOL_VIOLATION (0x0a). */
 #define YUTHPRAM_REFUSALS(X) \
-    X(MALFORMED, 1, "malformed extension or connection ID") \
+    X(MALFORMED, 1, "malformed connection ID") \
     X(ILLEGAL_VALUE, 2, "illegal value") \
     X(UNEXPECTED_END, 3, "the input ends within a number") \
     X(VARINT_BOUNDS_EXCEEDED, 4, "a number of 2^62 or more") \
@@ -28,7 +28,10 @@ extern "C" {
     X(INVALID_ORDER, 6, "an order that is not a permutation of 0 to 20") \
     X(ILL_FORMED, 7, "a record or connection ID that is not well formed, or no image") \
     X(LIMIT_REDUCED, 8, "a remembered limit was reduced") \
-    X(INVALID_DRAW, 9, "a drawn value out of range")
+    X(INVALID_DRAW, 9, "a drawn value out of range") \
+    X(CUT, 10, "cut off: an identifier or length that cannot be read, or a length beyond what is left") \
+    X(MISFIT, 11, "a value that does not fit or fill its length, or an ID of over 20 bytes") \
+    X(SECOND_COPY, 12, "a second copy of a known parameter")
 
 enum {
     YUTHPRAM_OK = 0,
@@ -131,9 +134,11 @@ uint8_t yuthpram_default(uint8_t *record, size_t record_len);
 /* Checks a record for the side that is to read it: a server checks its own record for YUTHPRAM_CLIENT. Refuses 7, then 2. */
 uint8_t yuthpram_check(const uint8_t *record, size_t record_len, uint8_t side);
 
-/* Reads an extension for the side that reads. Refuses 1 or 2, then 5 if record_len is below 303. A second copy of a known parameter
- * is 1. What is accepted is accepted in every order of its whole parameters, with the same record; which fault of a refused one is found
- * depends on the order. */
+/* Reads an extension for the side that reads. Refuses 10, 12, 2 or 11, then 5 if record_len is below 303: of each parameter in turn, from the
+ * front, CUT is found first, then SECOND_COPY, then ILLEGAL_VALUE for a preferred address with neither family, then MISFIT; behind the last one
+ * ILLEGAL_VALUE if a value rule is broken. MISFIT and SECOND_COPY stay whatever follows: the sender is wrong. What would be accepted and is cut off
+ * within a parameter is CUT; but CUT alone does not clear the sender, who may have sent too large a length. What is accepted is accepted in every
+ * order of its whole parameters, with the same record; which fault of a refused one is found depends on the order. */
 uint8_t yuthpram_read(uint8_t side, const uint8_t *src, size_t src_len, uint8_t *record, size_t record_len);
 
 /* Whether an order is a permutation of 0 to 20. Refuses 6. */
@@ -151,7 +156,7 @@ uint8_t yuthpram_write(const uint8_t *record, size_t record_len, uint8_t *out, s
  * order is drawn. Whether the order that the record has is a permutation is not looked at. At most YUTHPRAM_MAX_EXTENSION. Refuses 7. */
 uint8_t yuthpram_length(const uint8_t *record, size_t record_len, size_t *count);
 
-/* Reads an extension for the side that reads, and writes it in its one shortest form. Refuses 1 or 2, then 5. */
+/* Reads an extension for the side that reads, and writes it in its one shortest form. Refuses as yuthpram_read does, then 5. */
 uint8_t yuthpram_tidy(uint8_t side, const uint8_t *src, size_t src_len, uint8_t *out, size_t out_len, size_t *count);
 
 /* Builds a record to send, of YUTHPRAM_SETTINGS settings, the image of initial_src_cid, the draw for the reserved identifier, the

@@ -6,6 +6,7 @@ use crate::{
     answer::{Answer, Case, Op},
     due::{self, By, REQUESTS},
     inputs::{self, Dice, EDGES},
+    kinds::KINDS,
     library,
     suite::Suite,
 };
@@ -59,16 +60,19 @@ fn show(c: &Case, want: &Answer, got: &library::Called) {
 
 /// A difference planted on the library's side: in `read`, as if 20, the largest ack_delay_exponent, were 19; of a rearranged extension, as if the
 /// parameter at its front had to stay there; in `order_fault`, as if the earlier copy of a repeated entry were at fault; in resumption, as if an
-/// absent datagram size counted below 0; in each other operation, one bit of one answer, that of the 100th call that was accepted (the first of
-/// `default`, which has few). In `write` it is a bit of the byte before the output, in `tidy` of the byte behind it.
+/// absent datagram size counted below 0; in tidying twice, as if 11 and 12 were exchanged; in each other operation, one bit of one answer, that of
+/// the 100th call that was accepted (the first of `default`, which has few). In `write` it is a bit of the byte before the output, in `tidy` of the
+/// byte behind it.
 fn plant(c: &Case, nth: u64, got: &mut library::Called) {
     let now = nth == if c.op == Op::Default { 1 } else { 100 };
     match c.op {
         Op::OrderFault => got.number = c.x.iter().position(|p| c.x.get(got.number as usize) == Some(p)).map_or(got.number, |i| i as u64),
+        Op::TidyTwice if got.code == 11 || got.code == 12 => got.code = 23 - got.code,
+        Op::TidyTwice => {}
         _ if got.code != 0 => {}
         Op::Read if got.output()[64..72] == 20u64.to_be_bytes() => *got = library::refused(2),
         Op::Read => {}
-        Op::Rearranged | Op::TidyRearranged if !c.y.starts_with(inputs::parameters(c.x)[0].bytes) => *got = library::refused(1),
+        Op::Rearranged | Op::TidyRearranged if !c.y.starts_with(inputs::parameters(c.x)[0].bytes) => *got = library::refused(11),
         Op::Rearranged | Op::TidyRearranged => {}
         Op::Resume if matches!(due::by(c), By::Request05) => *got = library::refused(8),
         Op::Resume => {}
@@ -82,7 +86,7 @@ fn plant(c: &Case, nth: u64, got: &mut library::Called) {
 }
 
 /// The parts of the documented run.
-const PARTS: [(&str, fn(&mut Suite)); 26] = [
+const PARTS: [(&str, fn(&mut Suite)); 27] = [
     ("default", |s| s.default()),
     ("shown", |s| s.shown()),
     ("real", |s| s.real(1, 500_000)),
@@ -109,6 +113,7 @@ const PARTS: [(&str, fn(&mut Suite)); 26] = [
     ("rearrangements", |s| s.rearrangements(5_000, 100)),
     ("order_faults", |s| s.order_faults(1_000_000)),
     ("datagram_sizes", |s| s.datagram_sizes(10_000)),
+    ("kinds", |s| s.kinds(3)),
 ];
 
 /// How many inputs of a request were skipped in the run against quinn, and to how many of them quinn gives another answer than the one due.
@@ -147,11 +152,12 @@ impl Shuffles {
     }
 }
 
-/// What a run counts: by operation, by request, and by part of the run.
+/// What a run counts: by operation, by request, by operation and kind of malformed, and by part of the run.
 #[derive(Default)]
 struct Counts {
     tallies: [Tally; Op::ALL.len()],
     skipped: [Skipped; REQUESTS.len()],
+    kinds: [[u64; KINDS.len()]; Op::ALL.len()],
     shuffles: [Shuffles; PARTS.len()],
 }
 
@@ -174,6 +180,9 @@ impl Counts {
             }
         }
         self.count_by(c, by, &want);
+        if let Some(k) = KINDS.iter().position(|(kind, _)| *kind == want.code) {
+            self.kinds[c.op as usize][k] += 1;
+        }
         if c.other_order().is_some() {
             assert_eq!(want.code, 0, "only what is accepted is rearranged");
         }
@@ -189,7 +198,7 @@ impl Counts {
         if let Some(i) = REQUESTS.iter().position(|(request, _)| *request == by.request()) {
             t.requests += 1;
             self.skipped[i].all += 1;
-            self.skipped[i].parted += (due::answer_by(By::Quinn, c) != *want) as u64;
+            self.skipped[i].parted += due::is_parted(c, want) as u64;
         }
         if let By::Quinn = by {
             t.quinn += 1;
@@ -214,6 +223,7 @@ impl Counts {
         for ((request, inputs), n) in REQUESTS.iter().zip(&self.skipped) {
             println!("{:<60}{:>9}{:>25}", format!("{request:02}: {inputs}"), n.all, n.parted);
         }
+        self.print_kinds();
         println!("{:<16}{:>12}{:>18}{:>26}", "rearranged of", "orders", "with unknown ones", "of these, in longer forms");
         let mut sum = Shuffles::default();
         for ((name, _), n) in PARTS.iter().zip(&self.shuffles).filter(|(_, n)| n.all > 0) {
@@ -221,6 +231,14 @@ impl Counts {
             sum.add(n);
         }
         sum.line("all");
+    }
+
+    fn print_kinds(&self) {
+        let line = |name: &str, cells: [String; KINDS.len()]| println!("{name:<16}{}", cells.map(|cell| format!("{cell:>18}")).concat());
+        line("malformed", KINDS.map(|(_, name)| name.to_owned()));
+        for ((_, name), n) in Op::ALL.iter().zip(&self.kinds).filter(|(_, n)| **n != [0; KINDS.len()]) {
+            line(name, n.map(|n| n.to_string()));
+        }
     }
 }
 

@@ -1,11 +1,12 @@
-//! The answer that is due to a case: quinn's; where quinn has none, or parts from the product, the one that document 01 or 02 gives.
+//! The answer that is due to a case: quinn's; where quinn has none, or parts from the product, the one that document 01 or 02 gives. Of an extension that
+//! quinn calls Malformed the kind is due.
 
 use crate::{
     VarInt,
     answer::{Answer, Case, Op},
     coding::BufExt,
     image::{self, CATALOGUE_ORDER},
-    rust,
+    kinds, rust,
 };
 
 /// Who says what is due to a case.
@@ -94,7 +95,7 @@ fn by_documents(c: &Case) -> Answer {
     }
 }
 
-/// Request 02: a second copy is 1, whatever its value and whatever follows, unless a parameter before it is at fault. So is an identifier that
+/// Request 02: a second copy is malformed, whatever its value and whatever follows, unless a parameter before it is at fault. So is an identifier that
 /// cannot be read, which quinn finds where the second copy starts.
 fn by_request_02(c: &Case, start: usize) -> Answer {
     rust::answer(&Case { x: &[&c.x[..start], &[0x40]].concat(), ..*c })
@@ -111,7 +112,21 @@ pub fn by_request_05(c: &Case) -> Answer {
     rust::answer(&Case { x: &with_size(c.x), y: &with_size(c.y), ..*c })
 }
 
+/// Request 06: what quinn calls Malformed is one of three kinds, and nothing else is.
+fn in_kinds(c: &Case, a: Answer) -> Answer {
+    let kind = match c.op {
+        Op::Read | Op::Tidy | Op::TidyTwice | Op::Rearranged | Op::TidyRearranged => kinds::kind(c.x),
+        _ => return a,
+    };
+    assert_eq!(kind.is_some(), a.code == 1, "10, 11 or 12 is due exactly where quinn says Malformed: {:02x?}", c.x);
+    kind.map_or(a, Answer::refused)
+}
+
 /// 5 if the output is shorter than the bytes due.
+fn in_room(c: &Case, a: Answer) -> Answer {
+    if c.room < a.len { Answer::refused(5) } else { a }
+}
+
 pub fn answer_by(by: By, c: &Case) -> Answer {
     let a = match by {
         By::Quinn => rust::answer(c),
@@ -119,7 +134,13 @@ pub fn answer_by(by: By, c: &Case) -> Answer {
         By::Request02(start) => by_request_02(c, start),
         By::Request05 => by_request_05(c),
     };
-    if c.room < a.len { Answer::refused(5) } else { a }
+    in_room(c, in_kinds(c, a))
+}
+
+/// Whether quinn itself gives another answer than the one due. All three kinds count as its Malformed.
+pub fn is_parted(c: &Case, want: &Answer) -> bool {
+    let a = in_room(c, rust::answer(c));
+    (a.code, a.number, a.due()) != (kinds::by_quinn(want.code), want.number, want.due())
 }
 
 pub fn answer(c: &Case) -> Answer {

@@ -7,6 +7,7 @@ mod compare;
 mod due;
 mod image;
 mod inputs;
+mod kinds;
 mod library;
 mod list;
 mod rust;

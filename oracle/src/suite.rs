@@ -171,6 +171,37 @@ impl Suite<'_> {
         self.extension(&[&faults[1][..], &faults[0]].concat());
     }
 
+    /// Every sequence of up to `most` pieces of which each is sound, has one fault, or hides one behind another: what comes first, and what is tested
+    /// first, counts.
+    pub fn kinds(&mut self, most: u32) {
+        let address = |families: u8, id_len: u8, left: usize| {
+            let rest = usize::from(id_len) + 16 + left;
+            [&[0x0d, (25 + rest) as u8][..], &[families; 24], &[id_len], &vec![0xbb; rest]].concat()
+        };
+        let mut pieces = vec![
+            [&[0x0f, 21][..], &[0xaa; 21]].concat(),
+            address(1, 1, 0),
+            address(1, 1, 1),
+            address(1, 21, 0),
+            address(0, 1, 0),
+            address(0, 1, 1),
+            address(0, 21, 0),
+        ];
+        // sound ones; cut within an identifier, a length, a value; too long or too short a value; values that a rule forbids; unknown ones
+        for x in [
+            "010105", "6ab200", "40", "c0", "0140", "6ab2", "010205", "6ab201", "01020500", "010140", "0100", "6ab20100", "0201aa",
+            "0a0115", "0000", "1b00", "1b02aa",
+        ] {
+            pieces.push(inputs::unhex(x));
+        }
+        for len in 1..=most {
+            for i in 0..pieces.len().pow(len) {
+                let x: Vec<u8> = (0..len).flat_map(|k| pieces[i / pieces.len().pow(k) % pieces.len()].clone()).collect();
+                self.extension(&x);
+            }
+        }
+    }
+
     /// Every `step`th set of the known parameters.
     pub fn subsets(&mut self, step: usize) {
         for mask in (0..1 << 20).step_by(step) {

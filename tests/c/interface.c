@@ -118,7 +118,8 @@ static void refusals(void)
 {
     static const uint8_t numbers[] = {
         YUTHPRAM_OK, YUTHPRAM_MALFORMED, YUTHPRAM_ILLEGAL_VALUE, YUTHPRAM_UNEXPECTED_END, YUTHPRAM_VARINT_BOUNDS_EXCEEDED,
-        YUTHPRAM_BUFFER_TOO_SHORT, YUTHPRAM_INVALID_ORDER, YUTHPRAM_ILL_FORMED, YUTHPRAM_LIMIT_REDUCED, YUTHPRAM_INVALID_DRAW, 10,
+        YUTHPRAM_BUFFER_TOO_SHORT, YUTHPRAM_INVALID_ORDER, YUTHPRAM_ILL_FORMED, YUTHPRAM_LIMIT_REDUCED, YUTHPRAM_INVALID_DRAW, YUTHPRAM_CUT,
+        YUTHPRAM_MISFIT, YUTHPRAM_SECOND_COPY, 13,
     };
     for (uint8_t i = 0; i < sizeof numbers; i++) {
         CHECK(numbers[i] == i);
@@ -126,7 +127,7 @@ static void refusals(void)
             CHECK(strcmp(yuthpram_strerror(i), yuthpram_strerror(j)) != 0);
     }
     CHECK(strcmp(yuthpram_strerror(YUTHPRAM_ILLEGAL_VALUE), "illegal value") == 0);
-    CHECK(strcmp(yuthpram_strerror(10), yuthpram_strerror(255)) == 0);
+    CHECK(strcmp(yuthpram_strerror(13), yuthpram_strerror(255)) == 0);
 }
 
 // The image of the default record.
@@ -199,8 +200,8 @@ static void reading(void)
     CHECK(memcmp(out, image, RECORD) == 0);
     ACCEPTS(yuthpram_read(0, token, 18, out, RECORD));
     REFUSES(2, yuthpram_read(1, token, 18, out, RECORD));
-    REFUSES(1, yuthpram_read(0, twice, 6, out, RECORD));
-    REFUSES(1, yuthpram_read(0, cut, 3, out, RECORD));
+    REFUSES(12, yuthpram_read(0, twice, 6, out, RECORD));
+    REFUSES(10, yuthpram_read(0, cut, 3, out, RECORD));
     REFUSES(2, yuthpram_read(0, illegal, 3, out, RECORD));
     REFUSES(2, yuthpram_read(0, illegal, 3, out, 0));
     REFUSES(5, yuthpram_read(0, src, sizeof src, out, RECORD - 1));
@@ -242,15 +243,56 @@ static void second_copies(void)
         ACCEPTS(yuthpram_read(YUTHPRAM_CLIENT, src, n, out, RECORD));
         for (size_t len = 0; len <= 42; len += 42) {
             size_t end = n + parameter(src + n, sample[i].id, id_len, 0, len);
-            REFUSES(1, yuthpram_read(YUTHPRAM_CLIENT, src, end, out, RECORD));
-            REFUSES(1, yuthpram_tidy(YUTHPRAM_CLIENT, src, end, out, sizeof out, &count));
+            REFUSES(12, yuthpram_read(YUTHPRAM_CLIENT, src, end, out, RECORD));
+            REFUSES(12, yuthpram_tidy(YUTHPRAM_CLIENT, src, end, out, sizeof out, &count));
         }
         size_t end = n + put_sample(src + n, i);
         src[end] = 1;
-        REFUSES(1, yuthpram_read(YUTHPRAM_CLIENT, src, end, out, RECORD));
-        REFUSES(1, yuthpram_read(YUTHPRAM_CLIENT, src, end + 1, out, RECORD));
-        REFUSES(1, yuthpram_tidy(YUTHPRAM_CLIENT, src, end, out, sizeof out, &count));
+        REFUSES(12, yuthpram_read(YUTHPRAM_CLIENT, src, end, out, RECORD));
+        REFUSES(12, yuthpram_read(YUTHPRAM_CLIENT, src, end + 1, out, RECORD));
+        REFUSES(12, yuthpram_tidy(YUTHPRAM_CLIENT, src, end, out, sizeof out, &count));
     }
+}
+
+// What is read and tidied with the same refusal.
+static void refused_with(uint8_t refusal, const uint8_t *src, size_t len)
+{
+    REFUSES(refusal, yuthpram_read(YUTHPRAM_CLIENT, src, len, out, RECORD));
+    REFUSES(refusal, yuthpram_tidy(YUTHPRAM_CLIENT, src, len, out, sizeof out, &count));
+}
+
+// Each parameter, by itself and behind one that is accepted: cut off at every byte, the known ones with a value that does not fit, and a second
+// time with one that does not fit, or cut off. The cut is found first, then the second copy, then the misfit, which stay whatever follows.
+static void kinds(void)
+{
+    static const uint8_t before[] = { 0x1b, 1, 0 };
+    for (size_t from = 0; from <= sizeof before; from += sizeof before)
+        for (size_t i = 0; i < ALL; i++) {
+            uint8_t src[256];
+            memcpy(src, before, sizeof before);
+            size_t n = from + put_sample(src + from, i);
+            for (size_t cut = from + 1; cut < n; cut++)
+                refused_with(YUTHPRAM_CUT, src, cut);
+            if (i >= KNOWN)
+                continue;
+            size_t end = n + parameter(src + n, sample[i].id, sample[i].id_len, 1, 63);
+            src[end] = 1;
+            refused_with(YUTHPRAM_SECOND_COPY, src, end);
+            refused_with(YUTHPRAM_SECOND_COPY, src, end + 1);
+            refused_with(YUTHPRAM_CUT, src, end - 1);
+            end = from + parameter(src + from, sample[i].id, sample[i].id_len, 1, 63);
+            src[end] = 1;
+            refused_with(YUTHPRAM_MISFIT, src, end);
+            refused_with(YUTHPRAM_MISFIT, src, end + 1);
+            refused_with(YUTHPRAM_CUT, src, end - 1);
+        }
+    // an ID of 20 bytes, and of 21; an address with a byte left over, and one with neither family besides
+    static const uint8_t id = 0x0f, address = 0x0d;
+    uint8_t src[64];
+    ACCEPTS(yuthpram_read(YUTHPRAM_CLIENT, src, parameter(src, &id, 1, 7, 20), out, RECORD));
+    refused_with(YUTHPRAM_MISFIT, src, parameter(src, &id, 1, 7, 21));
+    refused_with(YUTHPRAM_MISFIT, src, parameter(src, &address, 1, 1, 43));
+    refused_with(YUTHPRAM_ILLEGAL_VALUE, src, parameter(src, &address, 1, 0, 43));
 }
 
 // All of them, from each one on, forwards and backwards: always the same record, and tidied the same bytes.
@@ -437,7 +479,7 @@ static void tidying(void)
     ACCEPTS(yuthpram_tidy(1, shortest, 3, out, 3, &count));
     CHECK(count == 3 && memcmp(out, shortest, 3) == 0 && kept(3));
     REFUSES(5, yuthpram_tidy(1, src, sizeof src, out, 2, &count));
-    REFUSES(1, yuthpram_tidy(1, src, sizeof src - 1, out, sizeof out, &count));
+    REFUSES(10, yuthpram_tidy(1, src, sizeof src - 1, out, sizeof out, &count));
     REFUSES(2, yuthpram_tidy(0, illegal, 3, out, 0, &count));
 }
 
@@ -634,6 +676,7 @@ int main(void)
     checking();
     reading();
     second_copies();
+    kinds();
     any_order();
     orders();
     order_faults();

@@ -60,8 +60,8 @@ const TRANSPORT_PARAMETER_ERROR: Option<u64> = Some(0x08);
 const PROTOCOL_VIOLATION: Option<u64> = Some(0x0a);
 
 errors! {
-    1 Malformed, "parameters were malformed", TRANSPORT_PARAMETER_ERROR;
-        "an extension, or a connection ID behind a length byte, that cannot be read."
+    1 Malformed, "connection ID was malformed", TRANSPORT_PARAMETER_ERROR;
+        "a connection ID behind a length byte that cannot be read."
     2 IllegalValue, "parameter had illegal value", TRANSPORT_PARAMETER_ERROR;
         "a parameter whose value is not allowed."
     3 UnexpectedEnd, "unexpected end of buffer", None;
@@ -78,6 +78,31 @@ errors! {
         "a remembered limit was reduced."
     9 InvalidDraw, "drawn value out of range", None;
         "a drawn value out of range."
+    10 Cut, "parameters were cut off", TRANSPORT_PARAMETER_ERROR;
+        "an extension that is cut off: an identifier or length that cannot be read, or a length beyond what is left."
+    11 Misfit, "parameter value did not fit", TRANSPORT_PARAMETER_ERROR;
+        "a parameter whose value does not fit or fill its length, or has a connection ID of over 20 bytes."
+    12 SecondCopy, "parameter was sent twice", TRANSPORT_PARAMETER_ERROR;
+        "a second copy of a known parameter."
+}
+
+impl Error {
+    /// Whether an extension or a connection ID is malformed, in whichever way. quinn's `Malformed` is all of these.
+    ///
+    /// ```
+    /// use yuthpram::{Error, Side, TransportParameters};
+    /// let read = |b: &[u8]| TransportParameters::read(Side::Client, b).unwrap_err();
+    /// // cut off; with a byte left over behind the number; the second copy of a flag
+    /// let kinds = [read(&[0x01, 0x02, 0x05]), read(&[0x01, 0x02, 0x05, 0x00]), read(&[0x0c, 0x00, 0x0c, 0x00])];
+    /// assert_eq!(kinds, [Error::Cut, Error::Misfit, Error::SecondCopy]);
+    /// assert_eq!(kinds.map(Error::number), [10, 11, 12]);
+    /// assert_eq!(kinds[2].to_string(), "parameter was sent twice");
+    /// assert!(kinds.iter().all(|e| e.is_malformed() && e.code() == Some(0x08)));
+    /// assert!(!Error::IllegalValue.is_malformed());
+    /// ```
+    pub const fn is_malformed(self) -> bool {
+        matches!(self, Error::Malformed | Error::Cut | Error::Misfit | Error::SecondCopy)
+    }
 }
 
 impl std::error::Error for Error {}

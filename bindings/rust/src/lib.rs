@@ -151,7 +151,10 @@ impl TransportParameters {
     /// assert_eq!(TransportParameters::read(Side::Server, &[0x00, 0x00]), Err(Error::IllegalValue));
     /// // grease_quic_bit; a second copy is refused, as that of every known parameter is.
     /// assert!(TransportParameters::read(Side::Client, &[0x6a, 0xb2, 0x00]).is_ok());
-    /// assert_eq!(TransportParameters::read(Side::Client, &[0x6a, 0xb2, 0x00, 0x6a, 0xb2, 0x00]), Err(Error::Malformed));
+    /// assert_eq!(TransportParameters::read(Side::Client, &[0x6a, 0xb2, 0x00, 0x6a, 0xb2, 0x00]), Err(Error::SecondCopy));
+    /// // A message that is cut off is told from a wrong sender.
+    /// assert_eq!(TransportParameters::read(Side::Client, &[0x6a, 0xb2]), Err(Error::Cut));
+    /// assert_eq!(TransportParameters::read(Side::Client, &[0x6a, 0xb2, 0x01, 0x00]), Err(Error::Misfit));
     /// // What is accepted is accepted in every order of its parameters, with the same record.
     /// let (grease, idle) = ([0x6a, 0xb2, 0x00], [0x01, 0x01, 0x05]);
     /// let read = TransportParameters::read(Side::Client, &[grease, idle].concat())?;

@@ -42,12 +42,12 @@ fn written_and_read_back() {
 #[test]
 fn refusals() {
     let read = |b: &[u8]| TransportParameters::read(Side::Client, b);
-    assert_eq!(read(&[0x01]), Err(Error::Malformed));
-    assert_eq!(read(&[0x01, 0x01, 0x05, 0x01, 0x01, 0x05]), Err(Error::Malformed));
+    assert_eq!(read(&[0x01]), Err(Error::Cut));
+    assert_eq!(read(&[0x01, 0x01, 0x05, 0x01, 0x01, 0x05]), Err(Error::SecondCopy));
     let delay = |us| [0xc0, 0x00, 0x00, 0x00, 0xff, 0x04, 0xde, 0x1b, 0x01, us];
     assert_eq!(read(&delay(6)).unwrap().min_ack_delay, Some(6u32.into()));
-    assert_eq!(read(&[delay(5), delay(6)].concat()), Err(Error::Malformed));
-    assert_eq!(tidy(Side::Client, &[delay(6), delay(6)].concat(), &mut [0; 20]), Err(Error::Malformed));
+    assert_eq!(read(&[delay(5), delay(6)].concat()), Err(Error::SecondCopy));
+    assert_eq!(tidy(Side::Client, &[delay(6), delay(6)].concat(), &mut [0; 20]), Err(Error::SecondCopy));
     assert_eq!(read(&[0x03, 0x02, 0x44, 0xaf]), Err(Error::IllegalValue));
     assert_eq!(VarInt::decode(&[0x40]), Err(Error::UnexpectedEnd));
     assert_eq!(VarInt::from_u64(1 << 62), Err(Error::VarIntBoundsExceeded));
@@ -63,6 +63,40 @@ fn refusals() {
     assert_eq!(built(TransportParameters::MAX_DRAW + 1, &[]), Err(Error::InvalidDraw));
     assert_eq!(built(0, &[0; TransportParameters::MAX_DRAWN_PAYLOAD + 1]), Err(Error::InvalidDraw));
     assert!(built(TransportParameters::MAX_DRAW, &[0; TransportParameters::MAX_DRAWN_PAYLOAD]).is_ok());
+}
+
+/// A message that is cut off is told from a wrong sender.
+#[test]
+fn three_kinds() {
+    let read = |b: &[u8]| TransportParameters::read(Side::Client, b).err();
+    let mut out = [0; TransportParameters::MAX_SIZE];
+    let n = full().write(&mut out).unwrap();
+    let mut between = vec![0];
+    let mut at = 0;
+    while at < n {
+        at += VarInt::decode(&out[at..]).unwrap().1;
+        let (len, size) = VarInt::decode(&out[at..]).unwrap();
+        at += size + len.into_inner() as usize;
+        between.push(at);
+    }
+    for cut in 0..=n {
+        let due = if between.contains(&cut) { None } else { Some(Error::Cut) };
+        assert_eq!((read(&out[..cut]), tidy(Side::Client, &out[..cut], &mut [0; 314]).err()), (due, due), "{cut}");
+    }
+    // each of them a second time, with a value that does not fit; and by itself with it: whatever follows
+    for bounds in between.windows(2) {
+        let one = &out[bounds[0]..bounds[1]];
+        let id = &one[..VarInt::decode(one).unwrap().1];
+        let other = [id, &[63], &[1; 63]].concat();
+        for more in [&[][..], &[0x40], &[0x0a, 0x01, 0x15]] {
+            assert_eq!(read(&[one, &other, more].concat()), Some(Error::SecondCopy));
+            assert_eq!(read(&[&other, more].concat()), Some(Error::Misfit));
+        }
+    }
+    for e in Error::ALL {
+        assert_eq!(e.is_malformed(), [1, 10, 11, 12].contains(&e.number()));
+        assert_eq!(e.code(), [None, Some(0x08), Some(0x0a)][if *e == Error::LimitReduced { 2 } else { (e.is_malformed() || e.number() == 2) as usize }]);
+    }
 }
 
 #[test]

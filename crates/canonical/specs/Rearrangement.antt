@@ -26,4 +26,4 @@ pub record Rearrangement : Type 0 where
   pub still_refused : (s : Side) (e e' : List ℕ) (n : ℕ) → Rearranged e e' → read s e ≡ refused n → (n' : ℕ) × (read s e' ≡ refused n')
   -- but not always by the same number: of two faults the first from the front counts
   pub two_faults : Rearranged (no_family ++ left_over) (left_over ++ no_family)
-  pub first_fault : (s : Side) → (read s (no_family ++ left_over) ≡ refused 2) × (read s (left_over ++ no_family) ≡ refused 1)
+  pub first_fault : (s : Side) → (read s (no_family ++ left_over) ≡ refused 2) × (read s (left_over ++ no_family) ≡ refused 11)

@@ -20,4 +20,4 @@ use Rattle.examples.specs.Examples.{Each, with, examples}
 
 pub hold : Each examples
 unfolding all front store read_number form tag_of cid_of formed_cid ids defaults other_kinds kinds kind_at id_at place_of fits illegal parameter no_values upd number_in number_out optional_in optional_out flag_out cid_in cid_out token_in token_out family_in family_out address_in address_out no_reserved no_order record_of other_values values_of formed_optional formed_optional_cid formed_token formed_optional_token formed_family formed_address formed_reserved formed_order well_formed number_rules presence_rules value_rules bare read_parameter receive step parse judge read reserved_bytes parameter_at extension permutation catalogue_order order_fault or_else order_of write length_of sum tidy remembered limits_kept size_rank nothing_reduced resume sized with examples
-hold = (refl, (refl, (refl, (refl, (refl, (refl, (refl, (refl, (refl, (refl, (refl, (refl, (refl, (refl, (refl, (refl, (refl, (refl, (refl, (refl, (refl, (refl, (refl, (refl, (refl, (refl, (refl, (refl, (refl, (refl, (refl, (refl, (refl, (refl, (refl, (refl, (refl, (refl, (refl, (refl, tt))))))))))))))))))))))))))))))))))))))))
+hold = (refl, (refl, (refl, (refl, (refl, (refl, (refl, (refl, (refl, (refl, (refl, (refl, (refl, (refl, (refl, (refl, (refl, (refl, (refl, (refl, (refl, (refl, (refl, (refl, (refl, (refl, (refl, (refl, (refl, (refl, (refl, (refl, (refl, (refl, (refl, (refl, (refl, (refl, (refl, (refl, (refl, (refl, (refl, (refl, (refl, (refl, (refl, (refl, (refl, (refl, tt))))))))))))))))))))))))))))))))))))))))))))))))))

@@ -1,7 +1,7 @@
--- The worked examples (a) to (n), some lengths, second copies, other orders, faults of an order and datagram sizes: for each a side, an operation,
+-- The worked examples (a) to (n), some lengths, second copies, other orders, faults of an order, datagram sizes and kinds of fault: for each a side, an operation,
 -- its input and the outcome. The definitions are those that the contracts of reading, tidying, writing, the length, the first fault of an order and
 -- resumption cite.
-use Rattle.std.specs.Prelude.{ℕ, ◌≡◌, List, [], ◌∷◌, ◌++◌, Bool, true, false, length, replicate, take}
+use Rattle.std.specs.Prelude.{ℕ, ◌+◌, ◌≡◌, List, [], ◌∷◌, ◌++◌, Bool, true, false, length, replicate, take}
 use Rattle.std.proofs.Math.Option.{Option, none, some}
 use Rattle.refusal.specs.Outcome.{Outcome, accepted, refused}
 use Rattle.varint.specs.Number.{bound}
@@ -95,12 +95,12 @@ reversed =
 abbrev pub nowhere : WriteOrder
 nowhere = record { present = true; places = replicate 21 0 }
 
--- min_ack_delay of a byte; a preferred address, with families of this byte
+-- min_ack_delay of a byte; a preferred address, with families of this byte, an ID of n bytes and so many left over
 abbrev pub delayed : ℕ → List ℕ
 delayed x = 0xc0 ∷ 0x00 ∷ 0x00 ∷ 0x00 ∷ 0xff ∷ 0x04 ∷ 0xde ∷ 0x1b ∷ 0x01 ∷ x ∷ []
 
-abbrev pub addressed : ℕ → List ℕ
-addressed x = 0x0d ∷ 0x2a ∷ (replicate 24 x ++ (0x01 ∷ 0xaa ∷ replicate 16 0xbb))
+abbrev pub addressed : ℕ → ℕ → ℕ → List ℕ
+addressed x n left = 0x0d ∷ (41 + n + left) ∷ (replicate 24 x ++ (n ∷ replicate (n + 16 + left) 0xbb))
 
 -- the parameter of (b), an unknown one whose identifier and length are longer than needed, and grease_quic_bit
 abbrev pub idle : List ℕ
@@ -131,9 +131,9 @@ examples =
     ∷  -- (h)
     reading Client (0x03 ∷ 0x02 ∷ 0x44 ∷ 0xaf ∷ []) (refused 2)
     ∷  -- (i)
-    reading Client (0x01 ∷ 0x01 ∷ 0x05 ∷ 0x01 ∷ 0x01 ∷ 0x05 ∷ []) (refused 1)
+    reading Client (0x01 ∷ 0x01 ∷ 0x05 ∷ 0x01 ∷ 0x01 ∷ 0x05 ∷ []) (refused 12)
     ∷  -- (j)
-    reading Client (0x01 ∷ 0x02 ∷ 0x05 ∷ 0x00 ∷ []) (refused 1)
+    reading Client (0x01 ∷ 0x02 ∷ 0x05 ∷ 0x00 ∷ []) (refused 11)
     ∷  -- (k)
     reading Client (0x1b ∷ 0x03 ∷ 0xaa ∷ 0xbb ∷ 0xcc ∷ []) (accepted default_record)
     ∷  -- (l)
@@ -152,10 +152,10 @@ examples =
     ∷ measuring default_record (accepted 0)
     ∷ measuring (plain (numbers bound 65527 25)) (refused 7)
     ∷  -- second copies (request 02): grease_quic_bit, min_ack_delay, and a preferred address that would be 2 by itself; unknown ones are skipped
-    reading Client (grease ++ grease) (refused 1)
-    ∷ reading Client (delayed 5 ++ delayed 6) (refused 1)
-    ∷ reading Client (addressed 1 ++ addressed 0) (refused 1)
-    ∷ reading Client (addressed 0) (refused 2)
+    reading Client (grease ++ grease) (refused 12)
+    ∷ reading Client (delayed 5 ++ delayed 6) (refused 12)
+    ∷ reading Client (addressed 1 1 0 ++ addressed 0 1 0) (refused 12)
+    ∷ reading Client (addressed 0 1 0) (refused 2)
     ∷ reading Client (0x1b ∷ 0x00 ∷ 0x1b ∷ 0x00 ∷ []) (accepted default_record)
     ∷  -- other orders (request 03): (b), an unknown parameter in a longer form and grease_quic_bit
     reading Client (idle ++ (unknown ++ grease)) (accepted (with (numbers 30000 65527 25) false true None no_order))
@@ -174,4 +174,18 @@ examples =
     ∷ reading Client (0x20 ∷ 0x01 ∷ 0x00 ∷ []) (accepted (datagrams (Some 0)))
     ∷ writing (datagrams (Some 0)) (0x20 ∷ 0x01 ∷ 0x00 ∷ [])
     ∷ writing (datagrams None) []
+    ∷  -- kinds of fault (request 06). The cut: an identifier and a length that can't be read, a length one beyond what is left, that of a second copy too;
+    -- behind a value that a rule forbids
+    reading Client (0x40 ∷ []) (refused 10)
+    ∷ reading Client (0x01 ∷ 0x40 ∷ []) (refused 10)
+    ∷ reading Client (0x01 ∷ 0x02 ∷ 0x05 ∷ []) (refused 10)
+    ∷ reading Client (0x01 ∷ 0x01 ∷ 0x05 ∷ 0x01 ∷ 0x02 ∷ 0x05 ∷ []) (refused 10)
+    ∷ reading Client (0x0a ∷ 0x01 ∷ 0x15 ∷ 0x01 ∷ []) (refused 10)
+    ∷  -- a second copy whose value does not fit
+    reading Client (0x01 ∷ 0x01 ∷ 0x05 ∷ 0x01 ∷ 0x02 ∷ 0x05 ∷ 0x00 ∷ []) (refused 12)
+    ∷  -- IDs of 21 bytes; an address with a byte left over, and one that has no family besides
+    reading Client (0x0f ∷ 0x15 ∷ replicate 21 0xaa) (refused 11)
+    ∷ reading Client (addressed 1 21 0) (refused 11)
+    ∷ reading Client (addressed 1 1 1) (refused 11)
+    ∷ reading Client (addressed 0 1 1) (refused 2)
     ∷ []

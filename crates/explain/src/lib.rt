@@ -14,8 +14,9 @@ use front::{Fault, Parameter, Parameters};
 use marks::{is_marked, with_mark};
 use refusal::Refusal;
 use rules::Side;
-use text::out::Out;
+use text::out::{Count, Out};
 use value::Received;
+use varint::VarInt;
 
 // The parameter at fault: where it starts, its identifier if it can be read, and what is wrong.
 #[derive(Clone, Copy)]
@@ -109,6 +110,17 @@ fn misfit(place: usize) -> &'static str {
     }
 }
 
+// Which parameter it is.
+fn note_name(out: &mut Out, id: u64)
+    ensures { Becomes Stream.Error out.old.fate out.new.fate }
+{
+    let name = NAMES
+        .get(catalogue::place_of(id))
+        .copied()
+        .unwrap_or("unknown");
+    out.note(format_args!("{name} (0x{id:02x}): "));
+}
+
 // Which parameter it is, and what is wrong with it; nothing of one that cannot be read.
 #[tactic(auto, using(text::proofs::Printing::unchanged, text::proofs::Printing::becomes_then))]
 fn note_cause(out: &mut Out, side: Side, c: Culprit)
@@ -118,13 +130,39 @@ fn note_cause(out: &mut Out, side: Side, c: Culprit)
         return;
     };
     let place = catalogue::place_of(id);
-    let name = NAMES.get(place).copied().unwrap_or("");
     let cause = match c.fault {
         Fault::SecondCopy => "a second copy",
         Fault::Illegal => rule(side, place),
         Fault::Cut | Fault::Misfit => misfit(place),
     };
-    out.note(format_args!("{name} (0x{id:02x}): {cause}\n"));
+    note_name(out, id);
+    out.note(format_args!("{cause}\n"));
+}
+
+// In which of its parts a parameter is cut off, and which one it is if its identifier is there.
+#[tactic(auto, using(text::proofs::Printing::becomes_then, varint::proofs::Laws::read_within))]
+fn note_cut(out: &mut Out, rest: &[u8])
+    ensures { Becomes Stream.Error out.old.fate out.new.fate }
+{
+    let Ok((id, n)) = VarInt::decode(rest) else {
+        out.note(": cut off within its identifier\n");
+        return;
+    };
+    out.note(", ");
+    note_name(out, id);
+    let behind = &rest[n..];
+    let Ok((len, m)) = VarInt::decode(behind) else {
+        let there = if behind.is_empty() {
+            "before"
+        } else {
+            "within"
+        };
+        out.note(format_args!("cut off {there} its length\n"));
+        return;
+    };
+    let left = behind.len() - m;
+    let len = Count(len as usize);
+    out.note(format_args!("cut off within its value, {left} of {len}\n"));
 }
 
 // A refusal of reading, and its cause.
@@ -137,11 +175,12 @@ pub fn note_reading(out: &mut Out, side: Side, r: Refusal, src: &[u8])
         return;
     };
     let at = c.at;
+    out.note(format_args!("at byte {at}"));
     if let Fault::Cut = c.fault {
-        out.note(format_args!("at byte {at}: the input ends within this parameter\n"));
+        note_cut(out, src.get(at..).unwrap_or(&[]));
         return;
     }
-    out.note(format_args!("at byte {at}, "));
+    out.note(", ");
     note_cause(out, side, c);
 }
 

@@ -1,5 +1,6 @@
 -- Laws of the parameter at the front of some bytes: no other file knows the wire form of its head. Assumes nothing.
 --     not_cut           a number that was not cut off was read
+--     only_cut          what is not whole is a cut
 --     front_append      bytes behind change nothing
 --     parts             two numbers and a value are a parameter
 --     front_parameter   a parameter that was written is read, with any bytes behind it
@@ -7,15 +8,18 @@
 use Prim.Native.Nat.{ℕ, ◌^◌, ◌≤◌, ◌<◌}
 use mathlib.Core.Path.{◌≡◌, ap, sym, ◌∙◌}
 use mathlib.Core.List.{List, ◌++◌, append_assoc}
+use mathlib.Core.Bool.{Bool, true, false}
 use native.Mathlib.Omega.{arith}
 use lib.ListN.{length, take, drop, length-append, length-drop}
 use lib.Seq.{take-append-le, drop-append-le, take-append_seam, drop-append_seam}
+use lib.Dec.{leb}
 use borrow.Author.Tests.{le-leb, leb-true}
-use Rattle.refusal.specs.Outcome.{Outcome, accepted, refused}
-use Rattle.refusal.proofs.Laws.{inverted, picked}
+use Rattle.refusal.specs.Outcome.{Result, Outcome, accepted, refused, pick}
+use Rattle.refusal.proofs.Laws.{inverted, declined, picked}
 use Rattle.varint.specs.Number.{number_bytes, read_number}
 use Rattle.varint.proofs.Laws.{read_number_bytes, read_within, number_append}
 use Rattle.catalogue.specs.Catalogue.{parameter}
+use Rattle.front.specs.declared.Fault.{Fault}
 use Rattle.front.specs.declared.Fault.TheVariants.{Cut}
 use Rattle.front.specs.Parameter.{or_cut, read_parameter}
 
@@ -33,6 +37,21 @@ pub record Front (bs : List ℕ) (id : ℕ) (v rest : List ℕ) : Type 0 where
 pub not_cut : {A : Type 0} (o : Outcome A) (a : A) → or_cut o ≡ accepted a → o ≡ accepted a
 not_cut (accepted b) a e = cc
 not_cut (refused n) a e = cc
+
+pub only_cut : (bs : List ℕ) (x : Fault) → read_parameter bs ≡ refused x → Cut ≡ x
+unfolding read_parameter
+only_cut bs x e =
+    declined (or_cut (read_number bs)) _ x e (λ r. cut (read_number bs) r) λ i ie ef.
+    declined (or_cut (read_number (drop i.1 bs))) _ x ef (λ r. cut (read_number (drop i.1 bs)) r) λ l le lf.
+    go (leb l.0 (length (drop l.1 (drop i.1 bs)))) _ lf
+  where
+    cut : {A : Type 0} (o : Outcome A) → or_cut o ≡ refused x → Cut ≡ x
+    cut (accepted a) r = cc
+    cut (refused n) r = cc
+
+    go : {A : Type 0} (t : Bool) (a : A) → pick {A = Result Fault A} t (accepted a) (refused Cut) ≡ refused x → Cut ≡ x
+    go true a r = cc
+    go false a r = cc
 
 pub at_front : (bs : List ℕ) (i : ℕ × List ℕ × List ℕ) → read_parameter bs ≡ accepted i → Front bs i.0 i.1 i.2
 unfolding read_parameter

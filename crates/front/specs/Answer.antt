@@ -3,16 +3,16 @@ use Rattle.std.specs.Prelude.{ℕ, Result as Answer, Ok, Err}
 use Rattle.refusal.specs.Outcome.{Result, accepted, refused, Outcome}
 use Rattle.refusal.specs.Number.{number_of}
 use Rattle.refusal.specs.declared.Refusal.{Refusal}
-use Rattle.refusal.specs.declared.Refusal.TheVariants.{Malformed, IllegalValue}
+use Rattle.refusal.specs.declared.Refusal.TheVariants as refusal
 use Rattle.front.specs.declared.Fault.{Fault}
 use Rattle.front.specs.declared.Fault.TheVariants.{Cut, SecondCopy, Misfit, Illegal}
 use Rattle.front.specs.declared.Parameter.{Parameter}
 
 abbrev pub refused_with : Fault → Refusal
-refused_with Cut = Malformed
-refused_with SecondCopy = Malformed
-refused_with Misfit = Malformed
-refused_with Illegal = IllegalValue
+refused_with Cut = refusal.Cut
+refused_with SecondCopy = refusal.SecondCopy
+refused_with Misfit = refusal.Misfit
+refused_with Illegal = refusal.IllegalValue
 
 abbrev pub numbered : {A : Type 0} → Result Fault A → Outcome A
 numbered (accepted a) = accepted a

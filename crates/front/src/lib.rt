@@ -29,7 +29,9 @@ impl From<Fault> for Refusal {
 
     fn from(fault: Fault) -> Refusal {
         match fault {
-            Fault::Cut | Fault::SecondCopy | Fault::Misfit => Refusal::Malformed,
+            Fault::Cut => Refusal::Cut,
+            Fault::SecondCopy => Refusal::SecondCopy,
+            Fault::Misfit => Refusal::Misfit,
             Fault::Illegal => Refusal::IllegalValue,
         }
     }

@@ -3,7 +3,7 @@
 --     simulate     going through an extension and reading it stop at the same fault, or agree
 use Prim.Native.Nat.{ℕ, zero, suc, ◌-◌, ◌%◌, ◌≤◌, ◌<◌}
 use mathlib.Core.Path.{◌≡◌, refl, ap, sym, ◌∙◌}
-use mathlib.Core.List.{List, [], ◌∷◌}
+use mathlib.Core.List.{List}
 use mathlib.Core.Option.{some}
 use mathlib.Core.Bool.{Bool, true, false}
 use native.Mathlib.Omega.{arith}
@@ -18,14 +18,14 @@ use Rattle.catalogue.specs.Catalogue.{number, places, place_of, kind_at, default
 use Rattle.record.specs.Values.{Values, no_values, is_some, upd, number_in}
 use Rattle.front.specs.declared.Fault.{Fault}
 use Rattle.front.specs.declared.Fault.TheVariants.{SecondCopy, Misfit, Illegal}
-use Rattle.front.specs.Parameter.{read_parameter, located}
+use Rattle.front.specs.Parameter.{located}
 use Rattle.front.proofs.Position.{within, cut_out, located_front}
 use Rattle.value.specs.Value.{kept_of, check_kind, receive_value}
 use Rattle.value.proofs.Checks.{taken}
 use Rattle.index.specs.Index.{Found, nothing, keep, note, between, index_in, index_from, value_at, Sound}
 use Rattle.index.proofs.Sound.{initial_at, start_sound, keep_sound, start_kept, length_kept}
 use Rattle.reader.specs.Reading.{receive, step, parse}
-use Rattle.reader.proofs.Run.{parse_nil, parse_front, upd_here, upd_there}
+use Rattle.reader.proofs.Run.{parse_cut, parse_nil, parse_front, upd_here, upd_there}
 
 pub record Agrees (s : List ℕ) (f : Found) (l : Values) : Type 0 where
   pub met : (p : ℕ) → is_some (l p) ≡ marked f.0 p
@@ -116,11 +116,6 @@ Related s (accepted f) (accepted l) = Sound s f × Agrees s f l
 Related s (accepted f) (refused x) = ⊥
 Related s (refused y) (accepted l) = ⊥
 Related s (refused y) (refused x) = y ≡ x
-
-parse_cut : (l : Values) (bs : List ℕ) (x : Fault) → 0 < length bs → read_parameter bs ≡ refused x → parse l bs ≡ refused x
-unfolding parse
-parse_cut l [] x h e = absurd (omega arith)
-parse_cut l (b ∷ bs) x h e = rw e
 
 Simulates : ℕ → Type 0
 Simulates n = (s : List ℕ) (at : ℕ) (f : Found) (l : Values) → at ≤ length s → length s - at ≤ n → Sound s f → Agrees s f l

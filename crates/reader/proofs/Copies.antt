@@ -1,15 +1,18 @@
 -- A second copy of a known parameter (RFC 9000 section 7.4), over byte strings, for any catalogue: nothing here names a place. Assumes nothing.
---     copy_refused     behind what a side accepts it is refused with 1, whatever its value, and whatever follows
+--     met_by           a place that is met in the end was met by one of the parameters
+--     behind           what is behind whole parameters is read after them
+--     copied           behind what is received without a fault it is a second copy, whatever its value, and whatever follows
+--     copy_refused     so behind what a side accepts it is refused with 12
 --     never_twice      what a side accepts has none
 use Prim.Native.Nat.{ℕ, zero, suc, ◌<◌}
-use mathlib.Core.Path.{◌≡◌, refl, sym, ◌∙◌}
-use mathlib.Core.List.{List, [], ◌∷◌, ◌++◌}
+use mathlib.Core.Path.{◌≡◌, refl, ap, sym, ◌∙◌}
+use mathlib.Core.List.{List, [], ◌∷◌, ◌++◌, append_assoc}
 use mathlib.Core.Option.{some}
 use mathlib.Core.Bool.{Bool, true, false}
 use native.Mathlib.Omega.{arith}
 use lib.ListN.{length}
 use lib.Dec.{eqb}
-use borrow.Author.Tests.{eq-eqb}
+use borrow.Author.Tests.{eq-eqb, eqb-true}
 use Rattle.refusal.specs.Outcome.{Result, accepted, refused, pick, and_then}
 use Rattle.refusal.proofs.Laws.{inverted}
 use Rattle.catalogue.specs.Catalogue.{places, place_of}
@@ -19,10 +22,10 @@ use Rattle.rules.specs.declared.Side.{Side}
 use Rattle.front.specs.declared.Fault.{Fault}
 use Rattle.front.specs.declared.Fault.TheVariants.{SecondCopy}
 use Rattle.front.specs.Parameter.{read_parameter}
-use Rattle.front.specs.Whole.{Composed, Repeated}
+use Rattle.front.specs.Whole.{Whole, concat, Wholes, Composed, Repeated}
 use Rattle.reader.specs.Reading.{step, parse_in, parse, read}
 use Rattle.reader.proofs.Run.{parse_whole, step_copy, stepped}
-use Rattle.reader.proofs.Laws.{parse_append, accepts}
+use Rattle.reader.proofs.Laws.{steps, parse_concat, parse_append, composed, accepts}
 
 -- A PLACE THAT WAS MET stays met
 step_kept : (l k : Values) (id : ℕ) (v : List ℕ) (q : ℕ) → step l id v ≡ accepted k → is_some (l q) ≡ true → is_some (k q) ≡ true
@@ -48,8 +51,65 @@ step_met : (l k : Values) (id : ℕ) (v : List ℕ) → place_of id < places →
 unfolding upd
 step_met l k id v h e = stepped l k id v e (λ n i. absurd (omega arith)) λ j n x y i. rw (← i, eq-eqb (place_of id) (place_of id) refl)
 
+-- A PLACE THAT IS MET in the end, and was not before
+pub record MetBy (e : List ℕ) (p : ℕ) : Type 0 where
+  pub a : List ℕ
+  pub w : List ℕ
+  pub b : List ℕ
+  pub are : a ++ (w ++ b) ≡ e
+  pub before : Composed a
+  pub first : Whole w
+  pub between : Composed b
+  pub at : place_of first.id ≡ p
+
+step_filled : (l k : Values) (id : ℕ) (v : List ℕ) (p : ℕ) → step l id v ≡ accepted k → is_some (l p) ≡ false → is_some (k p) ≡ true → place_of id ≡ p
+unfolding upd
+step_filled l k id v p e h m = stepped l k id v e (λ n i. let q = rw (← i) at m in cc) λ n x y z i. go (eqb p (place_of id)) refl (rw (← i) at m)
+  where
+    go : (b : Bool) → eqb p (place_of id) ≡ b → is_some (pick (eqb p (place_of id)) (some v) (l p)) ≡ true → place_of id ≡ p
+    go true q m = sym (eqb-true p (place_of id) q)
+    go false q m = let r = rw q at m in cc
+
+met_in : (ws : List (List ℕ)) (h : Wholes ws) (l m : Values) (p : ℕ) → steps ws h l ≡ accepted m → is_some (l p) ≡ false → is_some (m p) ≡ true → MetBy (concat ws) p
+met_in [] h l m p e n k = cc
+met_in (w ∷ ws) h l m p e n k =
+    let ih = met_in ws h.1 in
+    inverted (step l h.0.id h.0.v) _ m e λ j je jf. go j je jf ih (is_some (j p)) refl
+  where
+    go : (j : Values) → step l h.0.id h.0.v ≡ accepted j → steps ws h.1 j ≡ accepted m
+        → ((l m : Values) (p : ℕ) → steps ws h.1 l ≡ accepted m → is_some (l p) ≡ false → is_some (m p) ≡ true → MetBy (concat ws) p)
+        → (b : Bool) → is_some (j p) ≡ b → MetBy (w ++ concat ws) p
+    go j je jf ih true q =
+        record {
+          a = [];
+          w = w;
+          b = concat ws;
+          are = refl;
+          before = record { ws = []; is = refl; each = tt };
+          first = h.0;
+          between = record { ws = ws; is = refl; each = h.1 };
+          at = step_filled l j h.0.id h.0.v p je n q;
+        }
+    go j je jf ih false q =
+        let d = ih j m p jf q k in
+        record {
+          a = w ++ d.a;
+          w = d.w;
+          b = d.b;
+          are = append_assoc w d.a (d.w ++ d.b) ∙ ap (λ x. w ++ x) d.are;
+          before = record { ws = w ∷ d.before.ws; is = ap (λ x. w ++ x) d.before.is; each = (h.0, d.before.each) };
+          first = d.first;
+          between = d.between;
+          at = d.at;
+        }
+
+pub met_by : (l m : Values) (e : List ℕ) (p : ℕ) → parse l e ≡ accepted m → is_some (l p) ≡ false → is_some (m p) ≡ true → MetBy e p
+met_by l m e p r n k =
+    let c = composed l m e r in
+    rw (← c.is) (met_in c.ws c.each l m p (sym (parse_concat c.ws c.each l) ∙ ap (parse l) c.is ∙ r) n k)
+
 -- whole parameters, and what is behind them
-behind : (a cs : List ℕ) → Composed a → (l : Values) → parse l (a ++ cs) ≡ and_then (parse l a) (λ m. parse m cs)
+pub behind : (a cs : List ℕ) → Composed a → (l : Values) → parse l (a ++ cs) ≡ and_then (parse l a) (λ m. parse m cs)
 behind a cs c l = rw (← c.is) (parse_append c.ws c.each l cs)
 
 -- THE SECOND COPY, whatever follows
@@ -78,7 +138,7 @@ module _ (a w b u more : List ℕ) (c : Repeated a w b u) where
       go (refused x) e = refl
 
   -- either a fault before it, or it
-  copied : parse no_values (a ++ (w ++ (b ++ (u ++ more)))) ≡ and_then (parse no_values (a ++ (w ++ b))) (λ l. refused SecondCopy)
+  pub copied : parse no_values (a ++ (w ++ (b ++ (u ++ more)))) ≡ and_then (parse no_values (a ++ (w ++ b))) (λ l. refused SecondCopy)
   copied = rw (behind a (w ++ (b ++ (u ++ more))) c.before no_values, behind a (w ++ b) c.before no_values) (go (parse no_values a))
     where
       go : (o : Result Fault Values)
@@ -86,7 +146,7 @@ module _ (a w b u more : List ℕ) (c : Repeated a w b u) where
       go (accepted m) = from_w m
       go (refused x) = refl
 
-  pub copy_refused : (s : Side) (r : TransportParameters) → read s (a ++ (w ++ b)) ≡ accepted r → read s (a ++ (w ++ (b ++ (u ++ more)))) ≡ refused 1
+  pub copy_refused : (s : Side) (r : TransportParameters) → read s (a ++ (w ++ b)) ≡ accepted r → read s (a ++ (w ++ (b ++ (u ++ more)))) ≡ refused 12
   unfolding read
   copy_refused s r k = rw (copied, (accepts s (a ++ (w ++ b)) r k).was)
 

@@ -5,7 +5,9 @@
 --     accepts             what an accepted extension shows
 --     accepted_legal      the record is legal for the side that read it, and has neither order nor reserved parameter
 --     same_record         the record does not depend on the side
---     whole               what a side accepts is made of whole parameters
+--     composed            what is received to its end is made of whole parameters
+--     whole               so is what a side accepts
+--     alone               the parameter at the front, cut out
 --     once                in one way only
 --     unknown_skipped     unknown whole parameters anywhere leave the outcome as it was
 use Prim.Native.Nat.{ℕ, zero, suc}
@@ -27,6 +29,7 @@ use Rattle.front.specs.Answer.{numbered}
 use Rattle.front.specs.Parameter.{read_parameter}
 use Rattle.reader.specs.Reading.{step, parse_in, parse, judge, read}
 use Rattle.front.specs.Whole.{concat, Wholes, Composed, Stuffed}
+use Rattle.front.proofs.Front.{front_append}
 use Rattle.front.proofs.Split.{cut_out_lem, same_front, not_empty}
 use Rattle.reader.proofs.Run.{parse_nil, parse_whole, skipped}
 use Rattle.reader.proofs.Grow.{grown}
@@ -108,9 +111,20 @@ parsed_whole (suc f) l m (b ∷ bs) e =
     let d = ih k m i.2 kf in
     record { ws = c.w ∷ d.ws; is = ap (λ x. c.w ++ x) d.is ∙ c.are; each = (c.whole, d.each) }
 
-pub whole : (s : Side) (e : List ℕ) (r : TransportParameters) → read s e ≡ accepted r → Composed e
+pub composed : (l m : Values) (e : List ℕ) → parse l e ≡ accepted m → Composed e
 unfolding parse
-whole s e r k = let a = accepts s e r k in parsed_whole (length e) no_values a.values e a.was
+composed l m e k = parsed_whole (length e) l m e k
+
+pub whole : (s : Side) (e : List ℕ) (r : TransportParameters) → read s e ≡ accepted r → Composed e
+whole s e r k = let a = accepts s e r k in composed no_values a.values e a.was
+
+-- the parameter at the front, cut out, is the same one
+pub alone : (bs : List ℕ) (i : ℕ × List ℕ × List ℕ) (e : read_parameter bs ≡ accepted i) → read_parameter (cut_out_lem bs i e).w ≡ accepted (i.0, i.1, [])
+alone bs i e =
+    let c = cut_out_lem bs i e in
+    let a : read_parameter bs ≡ accepted (c.whole.id, c.whole.v, i.2) = rw c.are at (front_append c.w i.2 (c.whole.id, c.whole.v, []) c.whole.is) in
+    let q : ◌≡◌ {A = ℕ × List ℕ × List ℕ} (c.whole.id, c.whole.v, i.2) i = cc (a, e) in
+    c.whole.is ∙ ap (λ (j : ℕ × List ℕ × List ℕ). accepted (j.0, j.1, [])) q
 
 pub once : (ws us : List (List ℕ)) → Wholes ws → Wholes us → concat ws ≡ concat us → ws ≡ us
 once [] [] h g e = refl

@@ -3,6 +3,7 @@ pub mod Run
 pub mod Grow
 pub mod Laws
 pub mod Copies
+pub mod Faults
 pub mod Rearranged
 pub mod Built
 pub mod Given

@@ -1,10 +1,12 @@
 -- Laws of reading one parameter after another, for any catalogue: nothing here names a place. Assumes nothing.
 --     parse_nil        no bytes
+--     parse_cut        bytes that start no whole parameter
 --     parse_front      the parameter at the front, and then the rest
 --     parse_whole      a whole parameter, whatever follows
 --     step_unknown     an unknown parameter is skipped
 --     step_copy        a second copy is refused, whatever its value
 --     step_stored      a value that fits and is not illegal is stored at a place that is free
+--     step_misfit      a value that neither fits nor is illegal is a misfit, at a place that is free
 --     stepped          what a step that was accepted did
 --     skipped          unknown whole parameters anywhere change nothing
 --     upd_here, upd_there, upd_at    values with one place replaced: at that place, at another, as a whole
@@ -45,6 +47,11 @@ pub parse_nil : (l : Values) → parse l [] ≡ accepted l
 unfolding parse
 parse_nil l = refl
 
+pub parse_cut : (l : Values) (bs : List ℕ) (x : Fault) → 0 < length bs → read_parameter bs ≡ refused x → parse l bs ≡ refused x
+unfolding parse
+parse_cut l [] x h e = absurd (omega arith)
+parse_cut l (b ∷ bs) x h e = rw e
+
 -- the parameter at the front, and then the rest
 pub parse_front : (l : Values) (bs : List ℕ) (i : ℕ × List ℕ × List ℕ) → read_parameter bs ≡ accepted i
     → parse l bs ≡ and_then (step l i.0 i.1) (λ l'. parse l' i.2)
@@ -70,6 +77,11 @@ pub step_stored : (l : Values) (id : ℕ) (v : List ℕ) → place_of id < place
     → fits (kind_at (place_of id)) v ≡ true → step l id v ≡ accepted (upd l (place_of id) (some v))
 unfolding step receive
 step_stored l id v h m x y = rw (lt-ltb (place_of id) places h, m, x, y)
+
+pub step_misfit : (l : Values) (id : ℕ) (v : List ℕ) → place_of id < places → is_some (l (place_of id)) ≡ false → illegal (kind_at (place_of id)) v ≡ false
+    → fits (kind_at (place_of id)) v ≡ false → step l id v ≡ refused Misfit
+unfolding step receive
+step_misfit l id v h m x y = rw (lt-ltb (place_of id) places h, m, x, y)
 
 -- an unknown parameter, or a value that fits, at a place that was free
 pub stepped : {P : Type 0} (l k : Values) (id : ℕ) (v : List ℕ) → step l id v ≡ accepted k → (places ≤ place_of id → l ≡ k → P)

@@ -1,5 +1,6 @@
 -- Laws of the words of specs/Outcome.antt. Assumes nothing.
 --     inverted       a whole that was accepted had its first part accepted
+--     declined       one that was refused had its first part refused, or its second
 --     picked         an outcome that was accepted was the one picked
 --     pick_cases     a fact of both branches is one of what is picked
 --     all_at         each of the tests holds where all do
@@ -18,6 +19,11 @@ pub inverted : {E A B P : Type 0} (o : Result E A) (f : A → Result E B) (b : B
     → ((a : A) → o ≡ accepted a → f a ≡ accepted b → P) → P
 inverted (accepted a) f b e k = k a refl e
 inverted (refused n) f b e k = cc
+
+pub declined : {E A B P : Type 0} (o : Result E A) (f : A → Result E B) (n : E) → and_then o f ≡ refused n
+    → (o ≡ refused n → P) → ((a : A) → o ≡ accepted a → f a ≡ refused n → P) → P
+declined (accepted a) f n e h k = k a refl e
+declined (refused m) f n e h k = let i : m ≡ n = cc in h (ap refused i)
 
 pub picked : {E A P : Type 0} (t : Bool) (a b : A) (n : E) → pick {A = Result E A} t (accepted a) (refused n) ≡ accepted b
     → (t ≡ true → a ≡ b → P) → P

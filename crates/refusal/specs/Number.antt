@@ -1,7 +1,7 @@
 -- The number of each refusal.
 use Rattle.std.specs.Prelude.{ℕ}
 use Rattle.refusal.specs.declared.Refusal.{Refusal}
-use Rattle.refusal.specs.declared.Refusal.TheVariants.{Malformed, IllegalValue, UnexpectedEnd, VarIntBoundsExceeded, BufferTooShort, InvalidOrder, IllFormed, LimitReduced, InvalidDraw}
+use Rattle.refusal.specs.declared.Refusal.TheVariants.{Malformed, IllegalValue, UnexpectedEnd, VarIntBoundsExceeded, BufferTooShort, InvalidOrder, IllFormed, LimitReduced, InvalidDraw, Cut, Misfit, SecondCopy}
 
 abbrev pub number_of : Refusal → ℕ
 number_of Malformed = 1
@@ -13,3 +13,6 @@ number_of InvalidOrder = 6
 number_of IllFormed = 7
 number_of LimitReduced = 8
 number_of InvalidDraw = 9
+number_of Cut = 10
+number_of Misfit = 11
+number_of SecondCopy = 12

@@ -10,7 +10,7 @@ use std::fmt;
 
 #[derive(Clone, Copy, Debug, PartialEq, Eq)]
 pub enum Refusal {
-    // 1: an extension, or a connection ID behind a length byte, that cannot be read
+    // 1: a connection ID behind a length byte that cannot be read
     Malformed,
     // 2: a parameter whose value is not allowed
     IllegalValue,
@@ -28,6 +28,12 @@ pub enum Refusal {
     LimitReduced,
     // 9: a drawn value out of range
     InvalidDraw,
+    // 10: an identifier or length that cannot be read, or a length beyond what is left
+    Cut,
+    // 11: a value that does not fit or fill its length, or a connection ID of over 20 bytes
+    Misfit,
+    // 12: a second copy of a known parameter
+    SecondCopy,
 }
 
 impl Refusal {
@@ -45,6 +51,9 @@ impl Refusal {
             Refusal::IllFormed => 7,
             Refusal::LimitReduced => 8,
             Refusal::InvalidDraw => 9,
+            Refusal::Cut => 10,
+            Refusal::Misfit => 11,
+            Refusal::SecondCopy => 12,
         }
     }
 }
@@ -52,7 +61,7 @@ impl Refusal {
 impl fmt::Display for Refusal {
     fn fmt<W: fmt::Write>(&self, f: &mut fmt::Formatter<W>) -> fmt::Result {
         f.write_str(match self {
-            Refusal::Malformed => "malformed",
+            Refusal::Malformed => "a connection ID that cannot be read",
             Refusal::IllegalValue => "a value that is not allowed",
             Refusal::UnexpectedEnd => "the input ends within the number",
             Refusal::VarIntBoundsExceeded => "the number is 2^62 or more",
@@ -61,6 +70,9 @@ impl fmt::Display for Refusal {
             Refusal::IllFormed => "the record is not well formed",
             Refusal::LimitReduced => "a remembered limit is reduced",
             Refusal::InvalidDraw => "a drawn value is out of range",
+            Refusal::Cut => "a parameter is cut off",
+            Refusal::Misfit => "a value does not fit",
+            Refusal::SecondCopy => "a parameter is sent twice",
         })
     }
 }
