@@ -78,8 +78,8 @@ errors! {
         "a remembered limit was reduced."
     9 InvalidDraw, "drawn value out of range", None;
         "a drawn value out of range."
-    10 Cut, "parameters were cut off", TRANSPORT_PARAMETER_ERROR;
-        "an extension that is cut off: an identifier or length that cannot be read, or a length beyond what is left."
+    10 Cut, "parameter was cut off", TRANSPORT_PARAMETER_ERROR;
+        "a parameter that is cut off: an identifier or length that cannot be read, or a length beyond what is left."
     11 Misfit, "parameter value did not fit", TRANSPORT_PARAMETER_ERROR;
         "a parameter whose value does not fit or fill its length, or has a connection ID of over 20 bytes."
     12 SecondCopy, "parameter was sent twice", TRANSPORT_PARAMETER_ERROR;

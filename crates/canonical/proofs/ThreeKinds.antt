@@ -23,15 +23,15 @@ use Rattle.front.specs.Parameter.{read_parameter}
 use Rattle.front.specs.Whole.{Composed}
 use Rattle.order.specs.Order.{permutation}
 use Rattle.front.proofs.Front.{only_cut}
-use Rattle.reader.specs.Reading.{step, parse, judge, read}
+use Rattle.reader.specs.Reading.{parse, judge, read}
 use Rattle.reader.proofs.Run.{step_misfit}
-use Rattle.reader.proofs.Faults.{number, refuses, faulty, declines, stops, cut_there, found_there, fault_stays, front_cut, uncut}
+use Rattle.reader.proofs.Faults.{number, refuses, faulty, declines, stops, stops_at, cut_there, found_there, fault_stays, front_cut, uncut}
 use Rattle.front.proofs.Split.{cut_out_lem}
 use Rattle.reader.proofs.Laws.{composed, alone}
 use Rattle.reader.proofs.Copies.{met_by, copied}
 use Rattle.writer.specs.Writing.{order_of, write}
 use Rattle.tidy.specs.Tidying.{tidy_from, tidy}
-use Rattle.canonical.specs.ThreeKinds.{formerly, former_read, former_tidy, is_kind, former, Reached, CutAt, CopyAt, MisfitAt, ThreeKinds}
+use Rattle.canonical.specs.ThreeKinds.{formerly, former_read, former_tidy, is_kind, former, CutAt, CopyAt, MisfitAt, ThreeKinds}
 
 -- FAULTS, each told by its number
 abbrev fault_of : ℕ → Fault
@@ -105,12 +105,6 @@ tidied_not_one (refused x) out = λ o e. not_one {A = ℕ} (refused x) (ap (λ (
 by_number : {P : Type 0} (s : Side) (e : List ℕ) (x : Fault) → (number x ≡ 2 → ⊥) → read s e ≡ refused (number x) → (parse no_values e ≡ refused x → P) → P
 by_number s e x n k h = refuses s e (number x) k (λ i. absurd (n i)) λ y p i. h (p ∙ ap refused (same_fault y x i))
 
--- bytes that are reached, and the fault that is found there
-found : (s : Side) (e rest : List ℕ) (l : Values) (x : Fault) → Reached e rest l → (i : ℕ × List ℕ × List ℕ) → read_parameter rest ≡ accepted i → step l i.0 i.1 ≡ refused x
-    → read s e ≡ refused (number x)
-found s e rest l x g i r d =
-    faulty s e x (rw (← g.are, ← append-nil rest) (found_there no_values l g.before rest [] i x g.received r d))
-
 cut : (s : Side) (e : List ℕ) → (read s e ≡ refused 10) ↔ CutAt e
 cut s e = (there, back)
   where
@@ -164,8 +158,7 @@ second_copy s e = (there, back)
     there : read s e ≡ refused 12 → CopyAt e
     there k =
         by_number s e SecondCopy (λ i. omega arith) k λ p.
-        stops no_values e SecondCopy p (λ before b bs l a r z. let q = only_cut (b ∷ bs) SecondCopy z in cc)
-        λ before rest l i a r z d.
+        stops_at no_values e SecondCopy (λ i. cc) p λ before rest l i a r z d.
         declines l i.0 i.1 SecondCopy d (λ h m q. copy_at e before rest l i a r z h m) (λ q. cc) (λ h m y f q. cc)
 
     back : CopyAt e → read s e ≡ refused 12
@@ -175,14 +168,12 @@ second_copy s e = (there, back)
         faulty s e SecondCopy (rw (← are, copied c.a c.w c.b c.u c.more c.copy, r))
 
 misfit : (s : Side) (e : List ℕ) → (read s e ≡ refused 11) ↔ MisfitAt e
-misfit s e =
-    (there, λ k. found s e k.rest k.l Misfit k.reached (k.id, k.v, k.behind) k.next (step_misfit k.l k.id k.v k.known k.first k.legal k.misfit))
+misfit s e = (there, back)
   where
     there : read s e ≡ refused 11 → MisfitAt e
     there k =
         by_number s e Misfit (λ i. omega arith) k λ p.
-        stops no_values e Misfit p (λ before b bs l a r z. let q = only_cut (b ∷ bs) Misfit z in cc)
-        λ before rest l i a r z d.
+        stops_at no_values e Misfit (λ i. cc) p λ before rest l i a r z d.
         declines l i.0 i.1 Misfit d (λ h m q. cc) (λ q. cc)
         λ h m y f q.
         record {
@@ -198,6 +189,11 @@ misfit s e =
           legal = y;
           misfit = f;
         }
+
+    back : MisfitAt e → read s e ≡ refused 11
+    back c =
+        let d = step_misfit c.l c.id c.v c.known c.first c.legal c.misfit in
+        faulty s e Misfit (rw (← c.reached.are, ← append-nil c.rest) (found_there no_values c.l c.reached.before c.rest [] (c.id, c.v, c.behind) Misfit c.reached.received c.next d))
 
 -- A WRONG SENDER, A CUT MESSAGE
 wrong_stays : (s : Side) (e more : List ℕ) (n : ℕ) → (n ≡ 11) ⊎ (n ≡ 12) → read s e ≡ refused n → read s (e ++ more) ≡ refused n

@@ -4,6 +4,7 @@
 --     faulty         a fault in a parameter is what reading gives
 --     declines       what a step that was refused found
 --     stops          where a fault is found: behind what is received without one
+--     stops_at       one that is no cut is found in the parameter there
 --     cut_there      behind what is received, bytes that start no whole parameter are a cut
 --     found_there    and the fault of the parameter there is found, whatever follows
 --     fault_stays    a fault that is no cut stays, whatever follows
@@ -108,6 +109,11 @@ pub stops : {P : Type 0} (l : Values) (bs : List ℕ) (x : Fault) → parse l bs
 unfolding parse
 stops l bs x e none at = stops_in (length bs) l bs x (omega arith) e none at
 
+pub stops_at : {P : Type 0} (l : Values) (bs : List ℕ) (x : Fault) → (Cut ≡ x → ⊥) → parse l bs ≡ refused x
+    → ((before rest : List ℕ) (m : Values) (i : ℕ × List ℕ × List ℕ) → before ++ rest ≡ bs → parse l before ≡ accepted m → read_parameter rest ≡ accepted i
+    → step m i.0 i.1 ≡ refused x → P) → P
+stops_at l bs x n e at = stops l bs x e (λ before b rest m a r z. absurd (n (only_cut (b ∷ rest) x z))) at
+
 pub cut_there : (l m : Values) (before : List ℕ) (b : ℕ) (rest : List ℕ) → parse l before ≡ accepted m → read_parameter (b ∷ rest) ≡ refused Cut
     → parse l (before ++ (b ∷ rest)) ≡ refused Cut
 cut_there l m before b rest r z = resumed l m before (b ∷ rest) r ∙ parse_cut m (b ∷ rest) Cut (omega arith) z
@@ -122,8 +128,8 @@ found_there l m before rest more i x r z y =
 -- WHAT FOLLOWS
 pub fault_stays : (l : Values) (bs more : List ℕ) (x : Fault) → (Cut ≡ x → ⊥) → parse l bs ≡ refused x → parse l (bs ++ more) ≡ refused x
 fault_stays l bs more x n e =
-    stops l bs x e (λ before b rest m a r z. absurd (n (only_cut (b ∷ rest) x z)))
-    λ before rest m i a r z y. rw (← a, append_assoc before rest more) (found_there l m before rest more i x r z y)
+    stops_at l bs x n e λ before rest m i a r z y.
+    rw (← a, append_assoc before rest more) (found_there l m before rest more i x r z y)
 
 -- what a side accepts, cut off
 module _ (s : Side) (e more : List ℕ) (r : TransportParameters) (k : read s (e ++ more) ≡ accepted r) where

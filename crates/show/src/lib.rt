@@ -3,6 +3,9 @@
 
 pub mod rows;
 
+ghost use Rattle.text.specs.declared.out.Stream.{Stream};
+ghost use Rattle.text.specs.Printing.{Becomes};
+
 use catalogue::{DEFAULTS, PLACES};
 use rows::{ADDRESS_FLAG, Kind, ROWS, Row, Unit, name_of};
 use std::fmt;
@@ -71,13 +74,18 @@ fn port_at(image: &[u8], at: usize) -> u16 {
 }
 
 // A number and its unit, and whether it is the default of its place.
-fn say_number(out: &mut Out, i: usize, unit: Unit, value: u64) {
+fn say_number(out: &mut Out, i: usize, unit: Unit, value: u64)
+    ensures { Becomes Stream.Output out.old.fate out.new.fate }
+{
     let is_default = DEFAULTS.get(i) == Some(&value);
     let note = if is_default { " (default)" } else { "" };
     out.say(format_args!("{value}{unit}{note}"));
 }
 
-fn say_present(out: &mut Out, i: usize, row: Row, image: &[u8]) {
+#[tactic(auto, using(text::proofs::Printing::unchanged, text::proofs::Printing::becomes_then))]
+fn say_present(out: &mut Out, i: usize, row: Row, image: &[u8])
+    ensures { Becomes Stream.Output out.old.fate out.new.fate }
+{
     let at = row.value_at();
     match row.0 {
         Kind::Number(unit) | Kind::OptionalNumber(unit) => {
@@ -101,7 +109,10 @@ fn say_present(out: &mut Out, i: usize, row: Row, image: &[u8]) {
     }
 }
 
-fn show_row(out: &mut Out, i: usize, row: Row, image: &[u8]) {
+#[tactic(auto, using(text::proofs::Printing::unchanged, text::proofs::Printing::becomes_then))]
+fn show_row(out: &mut Out, i: usize, row: Row, image: &[u8])
+    ensures { Becomes Stream.Output out.old.fate out.new.fate }
+{
     let name = name_of(i);
     out.say(format_args!("{name:<36}"));
     if row.flag_at().is_none_or(|at| is_set(image, at)) {
@@ -115,7 +126,10 @@ fn show_row(out: &mut Out, i: usize, row: Row, image: &[u8]) {
 }
 
 // The rows of an address.
-fn show_parts(out: &mut Out, image: &[u8]) {
+#[tactic(auto, using(text::proofs::Printing::unchanged, text::proofs::Printing::becomes_then))]
+fn show_parts(out: &mut Out, image: &[u8])
+    ensures { Becomes Stream.Output out.old.fate out.new.fate }
+{
     for (i, row) in ROWS.iter().enumerate() {
         if let Kind::V4 | Kind::V6 | Kind::AddressId | Kind::AddressToken = row.0 {
             show_row(out, i, *row, image);
@@ -124,8 +138,11 @@ fn show_parts(out: &mut Out, image: &[u8]) {
 }
 
 // The places of the catalogue, without the reserved parameter's; the parts of an address behind it, if it is there.
-// No clause: what a stream is given has no definition here, and of an answer any fate may come.
-pub fn show(out: &mut Out, image: &[u8]) {
+// What a stream is given has no definition here: the clause says what becomes of the answer.
+#[tactic(auto, using(text::proofs::Printing::unchanged, text::proofs::Printing::becomes_then))]
+pub fn show(out: &mut Out, image: &[u8])
+    ensures { Becomes Stream.Output out.old.fate out.new.fate }
+{
     for (i, row) in ROWS.iter().enumerate().take(PLACES) {
         match row.0 {
             Kind::Reserved => {}
