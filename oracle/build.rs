@@ -3,9 +3,11 @@
 
 use std::{env, fs, path::PathBuf};
 
-/// An item of a source file: the attributes and comments above it, its first line, and what follows to its end.
+/// An item of a source file: the attributes and comments above it, its first line, and what follows to its end. That of an `impl` is named with the
+/// spaces before it.
 fn item(file: &str, first: &str) -> String {
-    let lines: Vec<&str> = file.lines().collect();
+    let (indent, first) = first.split_at(first.len() - first.trim_start().len());
+    let lines: Vec<&str> = file.lines().map(|l| l.strip_prefix(indent).unwrap_or("")).collect();
     let at = lines.iter().position(|l| l.starts_with(first)).unwrap_or_else(|| panic!("quinn has no '{first}'"));
     let above = lines[..at].iter().rev().take_while(|l| l.starts_with('#') || l.starts_with("//")).count();
     let ends = |l: &str| l == "}" || !l.starts_with(' ') && (l.ends_with(';') || l.ends_with("{}"));
@@ -61,6 +63,10 @@ pub fn link() -> PathBuf {
         let text = fs::read_to_string(src.join(file)).unwrap_or_else(|e| panic!("{}: {e}", src.join(file).display()));
         out.extend(items.iter().map(|first| item(&text, first)));
     }
+    let connection = src.join("connection/mod.rs");
+    let text = fs::read_to_string(&connection).unwrap_or_else(|e| panic!("{}: {e}", connection.display()));
+    let method = item(&text, "    fn handle_peer_params(&mut self, params: TransportParameters)");
+    out += &format!("#[allow(dead_code)]\nimpl Connection {{\n{method}}}\n");
     fs::write(PathBuf::from(env::var("OUT_DIR").unwrap()).join("quinn.rs"), out).unwrap();
 
     println!("cargo:rerun-if-changed=build.rs");

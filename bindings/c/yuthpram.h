@@ -17,8 +17,8 @@
 extern "C" {
 #endif
 
-/* The refusals: name, number, meaning. MALFORMED, ILLEGAL_VALUE, CUT, MISFIT and SECOND_COPY travel as TRANSPORT_PARAMETER_ERROR (0x08),
- * LIMIT_REDUCED as PROTOCOL_VIOLATION (0x0a). */
+/* The refusals: name, number, meaning. MALFORMED, ILLEGAL_VALUE, CUT, MISFIT, SECOND_COPY, CID_ABSENT and CID_MISMATCH travel as
+ * TRANSPORT_PARAMETER_ERROR (0x08), LIMIT_REDUCED as PROTOCOL_VIOLATION (0x0a). */
 #define YUTHPRAM_REFUSALS(X) \
     X(MALFORMED, 1, "malformed connection ID") \
     X(ILLEGAL_VALUE, 2, "illegal value") \
@@ -31,7 +31,9 @@ extern "C" {
     X(INVALID_DRAW, 9, "a drawn value out of range") \
     X(CUT, 10, "cut off: an identifier or length that cannot be read, or a length beyond what is left") \
     X(MISFIT, 11, "a value that does not fit or fill its length, or an ID of over 20 bytes") \
-    X(SECOND_COPY, 12, "a second copy of a known parameter")
+    X(SECOND_COPY, 12, "a second copy of a known parameter") \
+    X(CID_ABSENT, 13, "a connection ID that is needed is absent") \
+    X(CID_MISMATCH, 14, "a connection ID is not the one seen, or is that of a Retry and none was seen")
 
 enum {
     YUTHPRAM_OK = 0,
@@ -85,8 +87,8 @@ enum { YUTHPRAM_CLIENT = 0, YUTHPRAM_SERVER = 1 };
  * settings of yuthpram_new.
  *
  * Whether what an image holds is well formed (numbers below 2^62, IDs of at most 20 bytes, zeros behind them and in whatever is absent) is
- * another matter. Checking, writing, the length, building and resumption look at it, and refuse with the same number;
- * yuthpram_issue_cids_limit does not.
+ * another matter. Checking, writing, the length, building, resumption and yuthpram_authenticate_cids look at it, and refuse with the same
+ * number; yuthpram_issue_cids_limit does not.
  */
 #define YUTHPRAM_CID_SIZE 21
 #define YUTHPRAM_RECORD_SIZE 303
@@ -171,6 +173,16 @@ uint8_t yuthpram_validate_resumption_from(const uint8_t *record, size_t record_l
 
 /* How many connection IDs to issue to the peer of a record, well formed or not. Refuses 7 for what is no image. */
 uint8_t yuthpram_issue_cids_limit(const uint8_t *record, size_t record_len, uint64_t *limit);
+
+/* Who is at the other end (RFC 9000 section 7.3): holds the connection IDs of the peer's record to those that packets carried, for side, which is
+ * ours. The IDs seen are images: initial_src_cid, the Source Connection ID of the peer's first Initial; original_dst_cid, the Destination
+ * Connection ID of the client's first Initial; retry_src_cid, the Source Connection ID of the Retry if retry_seen is not 0. An image of it is handed
+ * in either way: without a Retry anything but 21 zero bytes, NULL too, is refused with 7.
+ * A server looks at initial_src_cid alone, a client at all three. Refuses 7 for what is no image or not well formed, looked at or not; then
+ * CID_ABSENT; then CID_MISMATCH, for a retry_src_cid without Retry too. Whether the record is legal is not looked at: that is yuthpram_check. */
+uint8_t yuthpram_authenticate_cids(uint8_t side, const uint8_t *record, size_t record_len, const uint8_t *initial_src_cid,
+                                   size_t initial_src_cid_len, const uint8_t *original_dst_cid, size_t original_dst_cid_len,
+                                   uint8_t retry_seen, const uint8_t *retry_src_cid, size_t retry_src_cid_len);
 
 #ifdef __cplusplus
 }

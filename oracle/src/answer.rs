@@ -1,7 +1,7 @@
 //! A case is one call, all in bytes and numbers; an answer is what came back. Both programs take the same cases.
 
-/// The operations. Those from `Check` on have no counterpart in the Rust: all but `CheckOrder` and `OrderFault` are held to what its operations
-/// give.
+/// The operations. Those from `Check` on have no counterpart in the Rust, but for `Authenticate`: all but `CheckOrder` and `OrderFault` are held to what its
+/// operations give.
 #[derive(Clone, Copy, PartialEq, Eq, Debug)]
 #[repr(u8)]
 pub enum Op {
@@ -28,6 +28,8 @@ pub enum Op {
     Length,
     /// takes an order of any length
     OrderFault,
+    /// takes a side, a record and the IDs that packets carried; quinn has one error, document 02 says which of 13 and 14 it is
+    Authenticate,
     /// the Rust reads an extension that it accepts, the library the same whole parameters in another order
     Rearranged,
     /// the same, but tidied
@@ -35,7 +37,7 @@ pub enum Op {
 }
 
 impl Op {
-    pub const ALL: [(Op, &'static str); 19] = [
+    pub const ALL: [(Op, &'static str); 20] = [
         (Op::NumberSize, "number_size"),
         (Op::NumberRead, "number_read"),
         (Op::NumberWrite, "number_write"),
@@ -53,6 +55,7 @@ impl Op {
         (Op::CheckOrder, "check_order"),
         (Op::Length, "length"),
         (Op::OrderFault, "order_fault"),
+        (Op::Authenticate, "authentication"),
         (Op::Rearranged, "rearranged"),
         (Op::TidyRearranged, "tidy rearranged"),
     ];
@@ -72,6 +75,7 @@ impl Op {
 /// | resumption | | a record's image | the cached one's | | |
 /// | new | the draw | twelve settings, eight bytes each | the ID's image | payload | order |
 /// | check_order, order_fault | | the order | | | |
+/// | authentication | side, and 256 times the flag of a Retry | a record's image | initial_src_cid's, as seen | original_dst_cid's | retry_src_cid's |
 #[derive(Clone, Copy)]
 pub struct Case<'a> {
     pub op: Op,

@@ -60,9 +60,9 @@ fn show(c: &Case, want: &Answer, got: &library::Called) {
 
 /// A difference planted on the library's side: in `read`, as if 20, the largest ack_delay_exponent, were 19; of a rearranged extension, as if the
 /// parameter at its front had to stay there; in `order_fault`, as if the earlier copy of a repeated entry were at fault; in resumption, as if an
-/// absent datagram size counted below 0; in tidying twice, as if 11 and 12 were exchanged; in each other operation, one bit of one answer, that of
-/// the 100th call that was accepted (the first of `default`, which has few). In `write` it is a bit of the byte before the output, in `tidy` of the
-/// byte behind it.
+/// absent datagram size counted below 0; in authentication, as if a server looked at original_dst_cid; in tidying twice, as if 11 and 12 were
+/// exchanged; in each other operation, one bit of one answer, that of the 100th call that was accepted (the first of `default`, which has few). In
+/// `write` it is a bit of the byte before the output, in `tidy` of the byte behind it.
 fn plant(c: &Case, nth: u64, got: &mut library::Called) {
     let now = nth == if c.op == Op::Default { 1 } else { 100 };
     match c.op {
@@ -76,6 +76,8 @@ fn plant(c: &Case, nth: u64, got: &mut library::Called) {
         Op::Rearranged | Op::TidyRearranged => {}
         Op::Resume if matches!(due::by(c), By::Request05) => *got = library::refused(8),
         Op::Resume => {}
+        Op::Authenticate if c.number & 255 != 0 && c.x[109..130] != *c.z => *got = library::refused(14),
+        Op::Authenticate => {}
         _ if !now => {}
         Op::NumberSize | Op::Issue | Op::Length => got.number ^= 1,
         Op::Check | Op::CheckOrder => got.code ^= 1,
@@ -86,7 +88,7 @@ fn plant(c: &Case, nth: u64, got: &mut library::Called) {
 }
 
 /// The parts of the documented run.
-const PARTS: [(&str, fn(&mut Suite)); 27] = [
+const PARTS: [(&str, fn(&mut Suite)); 29] = [
     ("default", |s| s.default()),
     ("shown", |s| s.shown()),
     ("real", |s| s.real(1, 500_000)),
@@ -114,7 +116,12 @@ const PARTS: [(&str, fn(&mut Suite)); 27] = [
     ("order_faults", |s| s.order_faults(1_000_000)),
     ("datagram_sizes", |s| s.datagram_sizes(10_000)),
     ("kinds", |s| s.kinds(3)),
+    ("alike", |s| s.alike()),
+    ("authentication", |s| s.authentication(200_000)),
 ];
+
+/// The refusals that quinn does not tell apart: its Malformed, and its one error for connection IDs.
+const TOLD_APART: [(u8, &str); 5] = [KINDS[0], KINDS[1], KINDS[2], (13, "13: ID absent"), (14, "14: mismatch")];
 
 /// How many inputs of a request were skipped in the run against quinn, and to how many of them quinn gives another answer than the one due.
 #[derive(Default, Clone, Copy)]
@@ -152,12 +159,12 @@ impl Shuffles {
     }
 }
 
-/// What a run counts: by operation, by request, by operation and kind of malformed, and by part of the run.
+/// What a run counts: by operation, by request, by operation and refusal that quinn does not tell apart, and by part of the run.
 #[derive(Default)]
 struct Counts {
     tallies: [Tally; Op::ALL.len()],
     skipped: [Skipped; REQUESTS.len()],
-    kinds: [[u64; KINDS.len()]; Op::ALL.len()],
+    told_apart: [[u64; TOLD_APART.len()]; Op::ALL.len()],
     shuffles: [Shuffles; PARTS.len()],
 }
 
@@ -180,8 +187,8 @@ impl Counts {
             }
         }
         self.count_by(c, by, &want);
-        if let Some(k) = KINDS.iter().position(|(kind, _)| *kind == want.code) {
-            self.kinds[c.op as usize][k] += 1;
+        if let Some(k) = TOLD_APART.iter().position(|(refusal, _)| *refusal == want.code) {
+            self.told_apart[c.op as usize][k] += 1;
         }
         if c.other_order().is_some() {
             assert_eq!(want.code, 0, "only what is accepted is rearranged");
@@ -223,7 +230,7 @@ impl Counts {
         for ((request, inputs), n) in REQUESTS.iter().zip(&self.skipped) {
             println!("{:<60}{:>9}{:>25}", format!("{request:02}: {inputs}"), n.all, n.parted);
         }
-        self.print_kinds();
+        self.print_told_apart();
         println!("{:<16}{:>12}{:>18}{:>26}", "rearranged of", "orders", "with unknown ones", "of these, in longer forms");
         let mut sum = Shuffles::default();
         for ((name, _), n) in PARTS.iter().zip(&self.shuffles).filter(|(_, n)| n.all > 0) {
@@ -233,10 +240,11 @@ impl Counts {
         sum.line("all");
     }
 
-    fn print_kinds(&self) {
-        let line = |name: &str, cells: [String; KINDS.len()]| println!("{name:<16}{}", cells.map(|cell| format!("{cell:>18}")).concat());
-        line("malformed", KINDS.map(|(_, name)| name.to_owned()));
-        for ((_, name), n) in Op::ALL.iter().zip(&self.kinds).filter(|(_, n)| **n != [0; KINDS.len()]) {
+    fn print_told_apart(&self) {
+        let line =
+            |name: &str, cells: [String; TOLD_APART.len()]| println!("{name:<16}{}", cells.map(|cell| format!("{cell:>18}")).concat());
+        line("refusals", TOLD_APART.map(|(_, name)| name.to_owned()));
+        for ((_, name), n) in Op::ALL.iter().zip(&self.told_apart).filter(|(_, n)| **n != [0; TOLD_APART.len()]) {
             line(name, n.map(|n| n.to_string()));
         }
     }

@@ -1,5 +1,5 @@
 //! The answer that is due to a case: quinn's; where quinn has none, or parts from the product, the one that document 01 or 02 gives. Of an extension that
-//! quinn calls Malformed the kind is due.
+//! quinn calls Malformed the kind is due, and of connection IDs that it refuses whether one is absent.
 
 use crate::{
     VarInt,
@@ -7,6 +7,7 @@ use crate::{
     coding::BufExt,
     image::{self, CATALOGUE_ORDER},
     kinds, rust,
+    transport_parameters::TransportParameters,
 };
 
 /// Who says what is due to a case.
@@ -122,6 +123,20 @@ fn in_kinds(c: &Case, a: Answer) -> Answer {
     kind.map_or(a, Answer::refused)
 }
 
+/// Request 07: what quinn refuses is 13 if an ID that is needed is absent, else 14: both need initial_src_cid, and a client original_dst_cid and, after a
+/// Retry, retry_src_cid.
+fn in_stages(c: &Case, a: Answer) -> Answer {
+    if c.op != Op::Authenticate || c.declined != 0 {
+        return a;
+    }
+    let (side, seen) = rust::seen(c);
+    let TransportParameters { initial_src_cid, original_dst_cid, retry_src_cid, .. } = image::to_record(c.x);
+    let looked_at = if side.is_client() { 3 } else { 1 };
+    let is_absent = (0..looked_at).any(|i| seen[i].is_some() && [initial_src_cid, original_dst_cid, retry_src_cid][i].is_none());
+    assert!(a.code != 0 || !is_absent, "quinn accepts nothing that lacks an ID which is needed");
+    if is_absent { Answer::refused(13) } else { a }
+}
+
 /// 5 if the output is shorter than the bytes due.
 fn in_room(c: &Case, a: Answer) -> Answer {
     if c.room < a.len { Answer::refused(5) } else { a }
@@ -134,10 +149,10 @@ pub fn answer_by(by: By, c: &Case) -> Answer {
         By::Request02(start) => by_request_02(c, start),
         By::Request05 => by_request_05(c),
     };
-    in_room(c, in_kinds(c, a))
+    in_room(c, in_stages(c, in_kinds(c, a)))
 }
 
-/// Whether quinn itself gives another answer than the one due. All three kinds count as its Malformed.
+/// Whether quinn itself gives another answer than the one due, to a reading or a resumption. All three kinds count as its Malformed.
 pub fn is_parted(c: &Case, want: &Answer) -> bool {
     let a = in_room(c, rust::answer(c));
     (a.code, a.number, a.due()) != (kinds::by_quinn(want.code), want.number, want.due())

@@ -31,6 +31,18 @@ unsafe extern "C" {
     ) -> u8;
     fn yuthpram_validate_resumption_from(record: *const u8, record_len: usize, cached: *const u8, cached_len: usize) -> u8;
     fn yuthpram_issue_cids_limit(record: *const u8, record_len: usize, limit: *mut u64) -> u8;
+    fn yuthpram_authenticate_cids(
+        side: u8,
+        record: *const u8,
+        record_len: usize,
+        initial_src_cid: *const u8,
+        initial_src_cid_len: usize,
+        original_dst_cid: *const u8,
+        original_dst_cid_len: usize,
+        retry_seen: u8,
+        retry_src_cid: *const u8,
+        retry_src_cid_len: usize,
+    ) -> u8;
 }
 
 /// How many bytes the shortest form of a number has.
@@ -112,7 +124,7 @@ fn number(op: Op, code: u8, numbers: [u64; 5]) -> u64 {
     match op {
         _ if !is_given => 0,
         Op::Issue => numbers[VALUE],
-        Op::Default | Op::Read | Op::New | Op::Resume | Op::Check | Op::CheckOrder => 0,
+        Op::Default | Op::Read | Op::New | Op::Resume | Op::Check | Op::CheckOrder | Op::Authenticate => 0,
         _ => numbers[COUNT],
     }
 }
@@ -172,6 +184,10 @@ pub fn call(c: &Case) -> Called {
             Op::CheckOrder => yuthpram_check_order(x, n),
             Op::Length => yuthpram_length(x, n, count),
             Op::OrderFault => yuthpram_order_fault(x, n, count),
+            Op::Authenticate => {
+                let retry_seen = (c.number >> 8) as u8;
+                yuthpram_authenticate_cids(side, x, n, y.as_ptr(), y.len(), z.as_ptr(), z.len(), retry_seen, w.as_ptr(), w.len())
+            }
             Op::Rearranged | Op::TidyRearranged => unreachable!("the other order was called for"),
         }
     };

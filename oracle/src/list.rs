@@ -6,7 +6,7 @@
 //! | at | head |
 //! |---|---|
 //! | 0 | operation, by its place in `Op` |
-//! | 1 | refusal due, or 0; 10, 11 and 12 of reading and tidying are quinn's Malformed, told apart by request 06 |
+//! | 1 | refusal due, or 0; 10, 11 and 12 of reading and tidying are quinn's Malformed, told apart by request 06; 13 and 14 its one refusal of connection IDs, by 07 |
 //! | 2, 4, 6, 8, 10 | where x, y, z, w and the bytes due end, counted from the head's end |
 //! | 12 | length of the output |
 //! | 14 | the request of document 02 that gives the answer, quinn not being asked; else 0 |
@@ -180,7 +180,7 @@ fn recorded<'a>(c: &Case<'a>) -> Case<'a> {
 
 pub fn record() {
     // every `step`th case of each part
-    let parts: [(usize, fn(&mut Suite)); 26] = [
+    let parts: [(usize, fn(&mut Suite)); 28] = [
         (1, |s| s.default()),
         (1, |s| s.shown()),
         (1, |s| s.real(61, 40)),
@@ -207,6 +207,8 @@ pub fn record() {
         (17, |s| s.order_faults(600)),
         (1, |s| s.datagram_sizes(2)),
         (11, |s| s.kinds(2)),
+        (997, |s| s.alike()),
+        (1, |s| s.authentication(40)),
     ];
     let (mut entries, mut bytes) = (0, 0);
     let mut requested = due::REQUESTS.map(|(request, _)| (request, 0));

@@ -1,6 +1,6 @@
 // What quinn's files expect at the crate root; included by the programs that run them (this one and ../bench).
 
-// quinn's transport_parameters.rs, varint.rs, coding.rs and shared.rs as they are; its constants, `Side` and `ResetToken`
+// quinn's transport_parameters.rs, varint.rs, coding.rs and shared.rs as they are; its constants, `Side`, `ResetToken` and `handle_peer_params`
 include!(concat!(env!("OUT_DIR"), "/quinn.rs"));
 
 use std::time::Duration;
@@ -14,6 +14,26 @@ pub enum TransportError {
     PROTOCOL_VIOLATION(&'static str),
     TRANSPORT_PARAMETER_ERROR(&'static str),
 }
+
+/// What `handle_peer_params` compares, and what it hands accepted parameters on to.
+#[allow(dead_code)]
+pub struct Connection {
+    pub side: Side,
+    pub orig_rem_cid: shared::ConnectionId,
+    pub initial_dst_cid: shared::ConnectionId,
+    pub retry_src_cid: Option<shared::ConnectionId>,
+}
+
+#[allow(dead_code)]
+impl Connection {
+    fn set_peer_params(&mut self, _params: TransportParameters) {}
+
+    pub fn authenticate(&mut self, params: TransportParameters) -> Result<(), TransportError> {
+        self.handle_peer_params(params)
+    }
+}
+
+use transport_parameters::TransportParameters;
 
 mod cid_generator {
     pub trait ConnectionIdGenerator {

@@ -3,7 +3,7 @@
 use std::panic::{UnwindSafe, catch_unwind, set_hook, take_hook};
 
 use crate::{
-    Side, VarInt,
+    Connection, Side, VarInt,
     answer::{Answer, Case, MOST, Op},
     coding::Codec,
     due, image,
@@ -13,6 +13,12 @@ use crate::{
 
 pub fn side(number: u64) -> Side {
     if number == 0 { Side::Client } else { Side::Server }
+}
+
+/// The side and the IDs that packets carried, of a case of authentication; the last only after a Retry.
+pub fn seen(c: &Case) -> (Side, [Option<ConnectionId>; 3]) {
+    let retry = (c.number >> 8 != 0).then(|| image::to_cid(c.w));
+    (side(c.number & 255), [Some(image::to_cid(c.y)), Some(image::to_cid(c.z)), retry])
 }
 
 fn refusal(e: Error) -> Answer {
@@ -107,6 +113,15 @@ pub fn answer(c: &Case) -> Answer {
             Err(e) => refusal(e),
         },
         Op::CheckOrder | Op::OrderFault => unreachable!("quinn has no such test"),
+        Op::Authenticate => {
+            let (side, seen) = seen(c);
+            let mut connection =
+                Connection { side, orig_rem_cid: seen[0].unwrap(), initial_dst_cid: seen[1].unwrap(), retry_src_cid: seen[2] };
+            match connection.authenticate(image::to_record(c.x)) {
+                Ok(()) => Answer::refused(0),
+                Err(_) => Answer::refused(14),
+            }
+        }
         Op::Length => {
             let mut p = image::to_record(c.x);
             p.write_order = p.write_order.filter(|order| due::is_permutation(order));

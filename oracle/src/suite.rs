@@ -7,6 +7,7 @@ use crate::{
     image::{self, RECORD},
     inputs::{self, Dice, EDGES, KNOWN, MAX, NUMBERS},
     rust,
+    shared::ConnectionId,
     transport_parameters::TransportParameters,
 };
 
@@ -699,6 +700,88 @@ impl Suite<'_> {
                 (self.sink)(&Case { y: &image::of_record(&cached), ..Case::new(Op::Resume, 0, &image::of_record(&new), 0) });
             }
         }
+    }
+
+    // Who is at the other end
+
+    /// Every three of five IDs that are alike, or none, in a record, and every three of them seen, a Retry or none, by both sides.
+    pub fn alike(&mut self) {
+        let alike: Vec<_> =
+            [&[][..], &[7], &[7, 0], &[8], &[7; 20]].map(|b| Some(ConnectionId::new(b))).into_iter().chain([None]).collect();
+        for i in 0..6usize.pow(3) {
+            let mut p = TransportParameters::default();
+            (p.initial_src_cid, p.original_dst_cid, p.retry_src_cid) = (alike[i % 6], alike[i / 6 % 6], alike[i / 36]);
+            for j in 0..5 * 5 * 6 {
+                for side in [0, 1] {
+                    self.authenticate(side, &p, [alike[j % 5], alike[j / 5 % 5], alike[j / 25]]);
+                }
+            }
+        }
+    }
+
+    /// Of random records the IDs that they have, and these with a bit, a length or the Retry changed; and in place of one ID, looked at or not, what is
+    /// none.
+    pub fn authentication(&mut self, n: usize) {
+        for i in 0..n {
+            let legal = self.d.one_in(2);
+            let mut p = inputs::record(&mut self.d, legal);
+            for id in [&mut p.initial_src_cid, &mut p.original_dst_cid] {
+                *id = id.or_else(|| (!self.d.one_in(8)).then(|| inputs::cid(&mut self.d)));
+            }
+            let other = [inputs::cid(&mut self.d), inputs::cid(&mut self.d)];
+            let seen = [p.initial_src_cid.or(Some(other[0])), p.original_dst_cid.or(Some(other[1])), p.retry_src_cid];
+            let side = self.side();
+            self.authenticate(side, &p, seen);
+            for k in 0..3 {
+                let changed = if k == 2 && self.d.one_in(3) { seen[2].xor(Some(other[0])) } else { seen[k].map(|c| self.altered(c)) };
+                let mut seen = seen;
+                seen[k] = changed;
+                self.authenticate(side, &p, seen);
+            }
+            self.ill_formed(side, i, &p, seen);
+        }
+    }
+
+    /// An ID with a bit changed, or a byte more or fewer; the byte may be 0.
+    fn altered(&mut self, c: ConnectionId) -> ConnectionId {
+        let mut bytes = c.to_vec();
+        let bit = 1 << self.d.below(8);
+        match self.d.below(3) {
+            0 if !bytes.is_empty() => bytes[self.d.below(c.len())] ^= bit,
+            1 if !bytes.is_empty() => bytes.truncate(c.len() - 1),
+            _ if c.len() < 20 => bytes.push(self.d.of(&[0, bit])),
+            _ => bytes[19] ^= bit,
+        }
+        ConnectionId::new(&bytes)
+    }
+
+    fn authenticate(&mut self, side: u64, p: &TransportParameters, seen: [Option<ConnectionId>; 3]) {
+        let flag = if seen[2].is_some() { self.d.of(&[1, 1, 2, 255]) } else { 0 };
+        let ids = seen.map(|c| c.map_or([0; image::CID], |c| image::of_cid(&c)));
+        let x = image::of_record(p);
+        (self.sink)(&Case { y: &ids[0], z: &ids[1], w: &ids[2], ..Case::new(Op::Authenticate, side | flag << 8, &x, 0) });
+    }
+
+    /// One of the IDs seen, or of the record's, is none: over 20 bytes, a byte behind it, another length of image, of no Retry not zero.
+    fn ill_formed(&mut self, side: u64, i: usize, p: &TransportParameters, seen: [Option<ConnectionId>; 3]) {
+        let mut ids = seen.map(|c| c.map_or([0; image::CID], |c| image::of_cid(&c)).to_vec());
+        let mut x = image::of_record(p);
+        let mut flag = seen[2].is_some() as u64;
+        let k = self.d.below(3);
+        match i % 5 {
+            0 => ids[k][0] = 21 + self.d.below(235) as u8,
+            1 => {
+                ids[k][0] = self.d.below(20) as u8;
+                ids[k][20] = 1 << self.d.below(8);
+            }
+            2 => ids[k].resize(self.d.of(&[0, 20, 22, 40]), 0),
+            3 => {
+                flag = 0;
+                ids[2][self.d.below(21)] |= 1 << self.d.below(8);
+            }
+            _ => inputs::spoil(&mut self.d, i / 5, &mut x),
+        }
+        (self.sink)(&Case { y: &ids[0], z: &ids[1], w: &ids[2], ..Case::new(Op::Authenticate, side | flag << 8, &x, 0) }.declined(7));
     }
 
     // Calls that are declined because of a record or an order: the Rust has no such record

@@ -119,7 +119,7 @@ static void refusals(void)
     static const uint8_t numbers[] = {
         YUTHPRAM_OK, YUTHPRAM_MALFORMED, YUTHPRAM_ILLEGAL_VALUE, YUTHPRAM_UNEXPECTED_END, YUTHPRAM_VARINT_BOUNDS_EXCEEDED,
         YUTHPRAM_BUFFER_TOO_SHORT, YUTHPRAM_INVALID_ORDER, YUTHPRAM_ILL_FORMED, YUTHPRAM_LIMIT_REDUCED, YUTHPRAM_INVALID_DRAW, YUTHPRAM_CUT,
-        YUTHPRAM_MISFIT, YUTHPRAM_SECOND_COPY, 13,
+        YUTHPRAM_MISFIT, YUTHPRAM_SECOND_COPY, YUTHPRAM_CID_ABSENT, YUTHPRAM_CID_MISMATCH, 15,
     };
     for (uint8_t i = 0; i < sizeof numbers; i++) {
         CHECK(numbers[i] == i);
@@ -127,7 +127,7 @@ static void refusals(void)
             CHECK(strcmp(yuthpram_strerror(i), yuthpram_strerror(j)) != 0);
     }
     CHECK(strcmp(yuthpram_strerror(YUTHPRAM_ILLEGAL_VALUE), "illegal value") == 0);
-    CHECK(strcmp(yuthpram_strerror(13), yuthpram_strerror(255)) == 0);
+    CHECK(strcmp(yuthpram_strerror(15), yuthpram_strerror(255)) == 0);
 }
 
 // The image of the default record.
@@ -584,6 +584,107 @@ static void datagram_sizes(void)
     }
 }
 
+// Who is at the other end. A record's ID is absent, the one seen, one of other bytes, or one byte longer with equal bytes and zeros.
+enum { ABSENT, SAME, OTHER, LONGER, STATES };
+enum { INITIAL, ORIGINAL, RETRY, IDS };
+
+static const uint8_t seen[IDS][CID] = { { 3, 7, 8, 9 }, { 8, 1, 2, 3, 4, 5, 6, 7, 8 }, { 2, 5, 6 } }, no_id[CID];
+
+static const size_t id_at[IDS] = { 130, 108, 152 };
+
+static void put_id(uint8_t *image, int id, int state)
+{
+    uint8_t *at = image + id_at[id];
+    memset(at, 0, 1 + CID);
+    if (state == ABSENT)
+        return;
+    at[0] = 1;
+    memcpy(at + 1, seen[id], CID);
+    if (state == OTHER)
+        at[2] ^= 0x80;
+    if (state == LONGER)
+        at[1]++;
+}
+
+static uint8_t authenticate(uint8_t side, const uint8_t *image, uint8_t retried)
+{
+    return yuthpram_authenticate_cids(side, image, RECORD, seen[INITIAL], CID, seen[ORIGINAL], CID, retried, retried ? seen[RETRY] : no_id, CID);
+}
+
+// What RFC 9000 section 7.3 says of it.
+static uint8_t due(int server, int initial, int original, int retry, int retried)
+{
+    if (initial == ABSENT || (!server && (original == ABSENT || (retried && retry == ABSENT))))
+        return YUTHPRAM_CID_ABSENT;
+    if (initial != SAME || (!server && (original != SAME || retry != (retried ? SAME : ABSENT))))
+        return YUTHPRAM_CID_MISMATCH;
+    return YUTHPRAM_OK;
+}
+
+static void authentication(void)
+{
+    uint8_t image[RECORD];
+    default_record(image);
+    for (int i = 0; i < STATES * STATES * STATES; i++) {
+        int initial = i % STATES, original = i / STATES % STATES, retry = i / STATES / STATES;
+        put_id(image, INITIAL, initial);
+        put_id(image, ORIGINAL, original);
+        put_id(image, RETRY, retry);
+        for (uint8_t retried = 0; retried < 3; retried++) {
+            CHECK(authenticate(YUTHPRAM_CLIENT, image, retried) == due(0, initial, original, retry, retried));
+            CHECK(authenticate(YUTHPRAM_SERVER, image, retried) == due(1, initial, original, retry, retried));
+            CHECK(authenticate(7, image, retried) == due(1, initial, original, retry, retried));
+        }
+    }
+}
+
+// What is not well formed comes before 13 and 14, and whether the side looks at it or not.
+static void authentication_of_ill_formed(void)
+{
+    uint8_t image[RECORD], ids[IDS][CID];
+    default_record(image);
+    for (int state = ABSENT; state < STATES; state++) {
+        put_id(image, INITIAL, state);
+        put_id(image, ORIGINAL, SAME);
+        put_id(image, RETRY, SAME);
+        for (uint8_t side = 0; side < 2; side++) {
+            for (int id = 0; id < IDS; id++) {
+                static const struct { size_t at; uint8_t byte; } ill[] = { { 0, 21 }, { 0, 255 }, { 20, 1 } };
+                for (size_t i = 0; i < 3; i++) {
+                    memcpy(ids, seen, sizeof ids);
+                    ids[id][ill[i].at] = ill[i].byte;
+                    CHECK(yuthpram_authenticate_cids(side, image, RECORD, ids[0], CID, ids[1], CID, 1, ids[2], CID) == YUTHPRAM_ILL_FORMED);
+                    image[id_at[id] + 1 + ill[i].at] ^= 0x80;
+                    CHECK(authenticate(side, image, 1) == YUTHPRAM_ILL_FORMED);
+                    image[id_at[id] + 1 + ill[i].at] ^= 0x80;
+                }
+            }
+            // an ID of a Retry that was not seen
+            CHECK(yuthpram_authenticate_cids(side, image, RECORD, seen[0], CID, seen[1], CID, 0, seen[2], CID) == YUTHPRAM_ILL_FORMED);
+            // what is no image
+            CHECK(yuthpram_authenticate_cids(side, image, RECORD - 1, seen[0], CID, seen[1], CID, 1, seen[2], CID) == YUTHPRAM_ILL_FORMED);
+            CHECK(yuthpram_authenticate_cids(side, image, RECORD, seen[0], CID - 1, seen[1], CID, 1, seen[2], CID) == YUTHPRAM_ILL_FORMED);
+            CHECK(yuthpram_authenticate_cids(side, image, RECORD, seen[0], CID, NULL, 0, 1, seen[2], CID) == YUTHPRAM_ILL_FORMED);
+            CHECK(yuthpram_authenticate_cids(side, image, RECORD, seen[0], CID, seen[1], CID, 0, NULL, 0) == YUTHPRAM_ILL_FORMED);
+        }
+    }
+}
+
+// A record that a side may not read can be asked all the same.
+static void authentication_of_illegal(void)
+{
+    uint8_t image[RECORD];
+    default_record(image);
+    put_id(image, INITIAL, SAME);
+    put_id(image, ORIGINAL, SAME);
+    CHECK(yuthpram_check(image, RECORD, YUTHPRAM_SERVER) == YUTHPRAM_ILLEGAL_VALUE); // no server is sent original_dst_cid
+    CHECK(authenticate(YUTHPRAM_SERVER, image, 0) == YUTHPRAM_OK);
+    put(image, 8, 1199); // max_udp_payload_size
+    CHECK(yuthpram_check(image, RECORD, YUTHPRAM_CLIENT) == YUTHPRAM_ILLEGAL_VALUE);
+    CHECK(authenticate(YUTHPRAM_CLIENT, image, 0) == YUTHPRAM_OK);
+    CHECK(authenticate(YUTHPRAM_CLIENT, image, 1) == YUTHPRAM_CID_ABSENT);
+}
+
 // What is no image is 7 in every function that takes one.
 static void no_images(void)
 {
@@ -598,6 +699,7 @@ static void no_images(void)
         REFUSES(YUTHPRAM_ILL_FORMED, yuthpram_length(image, RECORD, &count));
         REFUSES(YUTHPRAM_ILL_FORMED, yuthpram_validate_resumption_from(image, RECORD, good, RECORD));
         REFUSES(YUTHPRAM_ILL_FORMED, yuthpram_validate_resumption_from(good, RECORD, image, RECORD));
+        REFUSES(YUTHPRAM_ILL_FORMED, authenticate(YUTHPRAM_SERVER, image, 0));
         REFUSES(YUTHPRAM_ILL_FORMED, yuthpram_issue_cids_limit(image, RECORD, &value));
     }
 }
@@ -641,6 +743,11 @@ static void nothing(void)
     REFUSES(5, yuthpram_new(settings, YUTHPRAM_SETTINGS, cid, CID, 0, NULL, 0, order, 21, NULL, 0));
     REFUSES(7, yuthpram_validate_resumption_from(NULL, 0, image, RECORD));
     REFUSES(7, yuthpram_validate_resumption_from(image, RECORD, NULL, 0));
+    REFUSES(7, yuthpram_authenticate_cids(YUTHPRAM_CLIENT, NULL, 0, cid, CID, cid, CID, 1, cid, CID));
+    REFUSES(7, yuthpram_authenticate_cids(YUTHPRAM_CLIENT, image, RECORD, NULL, 0, cid, CID, 1, cid, CID));
+    REFUSES(7, yuthpram_authenticate_cids(YUTHPRAM_SERVER, image, RECORD, cid, CID, NULL, 0, 1, cid, CID));
+    REFUSES(7, yuthpram_authenticate_cids(YUTHPRAM_SERVER, image, RECORD, cid, CID, cid, CID, 0, NULL, 0));
+    REFUSES(13, yuthpram_authenticate_cids(YUTHPRAM_SERVER, image, RECORD, cid, CID, cid, CID, 1, cid, CID));
     REFUSES(7, yuthpram_issue_cids_limit(NULL, 0, &value));
 }
 
@@ -689,6 +796,9 @@ int main(void)
     not_building();
     resumption();
     datagram_sizes();
+    authentication();
+    authentication_of_ill_formed();
+    authentication_of_illegal();
     no_images();
     nothing();
     yes_or_no();

@@ -84,6 +84,10 @@ errors! {
         "a parameter whose value does not fit or fill its length, or has a connection ID of over 20 bytes."
     12 SecondCopy, "parameter was sent twice", TRANSPORT_PARAMETER_ERROR;
         "a second copy of a known parameter."
+    13 CidAbsent, "needed connection ID was absent", TRANSPORT_PARAMETER_ERROR;
+        "a connection ID that is needed and that the peer's record does not have."
+    14 CidMismatch, "connection ID was not the one seen", TRANSPORT_PARAMETER_ERROR;
+        "a connection ID other than the one that packets carried, or that of a Retry and none was seen."
 }
 
 impl Error {

@@ -33,6 +33,19 @@ extern "C" {
     ) -> u8;
     pub fn yuthpram_validate_resumption_from(record: *const u8, record_len: usize, cached: *const u8, cached_len: usize) -> u8;
     pub fn yuthpram_issue_cids_limit(record: *const u8, record_len: usize, limit: *mut u64) -> u8;
+    #[allow(clippy::too_many_arguments)]
+    pub fn yuthpram_authenticate_cids(
+        side: u8,
+        record: *const u8,
+        record_len: usize,
+        initial_src_cid: *const u8,
+        initial_src_cid_len: usize,
+        original_dst_cid: *const u8,
+        original_dst_cid_len: usize,
+        retry_seen: u8,
+        retry_src_cid: *const u8,
+        retry_src_cid_len: usize,
+    ) -> u8;
 }
 
 /// How many bytes the shortest form of a number below 2^62 has.

@@ -20,7 +20,7 @@ mod image;
 mod types;
 
 pub use error::Error;
-pub use types::{AddressV6, ConnectionId, PreferredAddress, ReservedTransportParameter, ResetToken, Side, VarInt};
+pub use types::{AddressV6, ConnectionId, PreferredAddress, ReservedTransportParameter, ResetToken, SeenConnectionIds, Side, VarInt};
 
 /// What building takes besides a connection ID and drawn values: quinn's configuration, as `TransportParameters::new` uses it.
 /// The defaults are quinn's, of a client.
@@ -300,6 +300,45 @@ impl TransportParameters {
         let number = unsafe { ffi::yuthpram_issue_cids_limit(image.as_ptr(), image.len(), &mut limit) };
         debug_assert_eq!(number, 0);
         limit
+    }
+
+    /// Whether the peer that sent these parameters is the one that the packets came from (RFC 9000 section 7.3), for a side, which is ours. What
+    /// a server looks at is `initial_src_cid` alone. Whether the parameters are legal is not looked at: reading does that.
+    ///
+    /// ```
+    /// use yuthpram::{ConnectionId, Error, SeenConnectionIds, Side, TransportParameters};
+    /// let (server, first, relay) = (ConnectionId::new(&[1, 2, 3])?, ConnectionId::new(&[4; 8])?, ConnectionId::new(&[5])?);
+    /// let mut params = TransportParameters { initial_src_cid: Some(server), original_dst_cid: Some(first), ..Default::default() };
+    /// let mut seen = SeenConnectionIds { initial_src_cid: server, original_dst_cid: first, retry_src_cid: None };
+    /// assert_eq!(params.authenticate_cids(Side::Client, &seen), Ok(()));
+    /// // A relay sent Retry: its ID is needed, and it is the one seen.
+    /// seen.retry_src_cid = Some(relay);
+    /// assert_eq!(params.authenticate_cids(Side::Client, &seen), Err(Error::CidAbsent));
+    /// params.retry_src_cid = Some(relay);
+    /// assert_eq!(params.authenticate_cids(Side::Client, &seen), Ok(()));
+    /// // Without Retry there is no such ID.
+    /// seen.retry_src_cid = None;
+    /// assert_eq!(params.authenticate_cids(Side::Client, &seen), Err(Error::CidMismatch));
+    /// # Ok::<(), Error>(())
+    /// ```
+    pub fn authenticate_cids(&self, side: Side, seen: &SeenConnectionIds) -> Result<(), Error> {
+        let image = image::image_of(self);
+        let (initial, original) = (seen.initial_src_cid.image(), seen.original_dst_cid.image());
+        let retry = seen.retry_src_cid.map_or([0; ffi::CID_SIZE], |c| c.image());
+        Error::of(unsafe {
+            ffi::yuthpram_authenticate_cids(
+                side.byte(),
+                image.as_ptr(),
+                image.len(),
+                initial.as_ptr(),
+                initial.len(),
+                original.as_ptr(),
+                original.len(),
+                seen.retry_src_cid.is_some() as u8,
+                retry.as_ptr(),
+                retry.len(),
+            )
+        })
     }
 
     pub(crate) fn numbers(&self) -> [VarInt; 11] {

@@ -262,6 +262,18 @@ impl fmt::Display for ConnectionId {
     }
 }
 
+/// The connection IDs that packets carried, each under the name of the parameter that is held to it (RFC 9000 section 7.3). `None` is no
+/// Retry; a Retry with an empty ID is `Some`.
+#[derive(Debug, Copy, Clone, Eq, PartialEq, Hash)]
+pub struct SeenConnectionIds {
+    /// The Source Connection ID of the peer's first Initial packet.
+    pub initial_src_cid: ConnectionId,
+    /// The Destination Connection ID of the client's first Initial packet.
+    pub original_dst_cid: ConnectionId,
+    /// The Source Connection ID of the Retry packet, if there was one.
+    pub retry_src_cid: Option<ConnectionId>,
+}
+
 /// A stateless reset token. It is a secret: whoever knows it can end the connection. So `==` takes the same time wherever two tokens
 /// differ, `Debug` does not show the bytes, and there is no `Display`.
 ///

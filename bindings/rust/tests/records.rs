@@ -94,9 +94,41 @@ fn three_kinds() {
         }
     }
     for e in Error::ALL {
-        assert_eq!(e.is_malformed(), [1, 10, 11, 12].contains(&e.number()));
-        assert_eq!(e.code(), [None, Some(0x08), Some(0x0a)][if *e == Error::LimitReduced { 2 } else { (e.is_malformed() || e.number() == 2) as usize }]);
+        let code = match e.number() {
+            1 | 2 | 10..=14 => Some(0x08),
+            8 => Some(0x0a),
+            _ => None,
+        };
+        assert_eq!((e.is_malformed(), e.code()), ([1, 10, 11, 12].contains(&e.number()), code));
     }
+}
+
+/// Either side holds the IDs to those that packets carried, as RFC 9000 section 7.3 says; a record that it may not read too.
+#[test]
+fn authentication() {
+    let cid = |bytes: &[u8]| ConnectionId::new(bytes).unwrap();
+    let (one, two) = (cid(&[7, 0]), cid(&[7]));
+    let seen = |retry| SeenConnectionIds { initial_src_cid: one, original_dst_cid: two, retry_src_cid: retry };
+    let ids = [None, Some(one), Some(two), Some(cid(&[]))];
+    for (i, o, r) in (0..64).map(|n| (ids[n % 4], ids[n / 4 % 4], ids[n / 16])) {
+        let p = TransportParameters { initial_src_cid: i, original_dst_cid: o, retry_src_cid: r, ..full() };
+        for retry in ids {
+            let of = |absent: bool, matches: bool| match (absent, matches) {
+                (true, _) => Err(Error::CidAbsent),
+                (false, false) => Err(Error::CidMismatch),
+                (false, true) => Ok(()),
+            };
+            let server = of(i.is_none(), i == Some(one));
+            let client = of(
+                i.is_none() || o.is_none() || retry.is_some() && r.is_none(),
+                (i, o, r) == (Some(one), Some(two), retry),
+            );
+            assert_eq!(p.authenticate_cids(Side::Server, &seen(retry)), server);
+            assert_eq!(p.authenticate_cids(Side::Client, &seen(retry)), client);
+        }
+    }
+    let illegal = TransportParameters { max_udp_payload_size: 1199u32.into(), initial_src_cid: Some(one), ..Default::default() };
+    assert_eq!((illegal.check(Side::Server), illegal.authenticate_cids(Side::Server, &seen(None))), (Err(Error::IllegalValue), Ok(())));
 }
 
 #[test]

@@ -3,8 +3,10 @@
 
 ghost use Rattle.std.specs.Prelude.{◌≡◌};
 ghost use Rattle.refusal.specs.Answer.{outcome_of};
-ghost use Rattle.by_image.specs.ByImage.{image_read, image_check, image_write, image_length, image_resume};
+ghost use Rattle.by_image.specs.ByImage.{image_read, image_check, image_write, image_length, image_resume, seen_from, image_authenticate};
 
+use authentication::SeenConnectionIds;
+use record::Optional;
 use refusal::Refusal;
 use rules::Side;
 
@@ -51,4 +53,43 @@ pub fn validate_resumption_from(record: &[u8], cached: &[u8]) -> Result<(), Refu
     let new = imaged::record_from(record)?;
     let old = imaged::record_from(cached)?;
     resumption::validate_resumption_from(new, old)
+}
+
+// The IDs that packets carried, by their images; a flag says whether there was a Retry.
+#[tactic(auto, unfolding(crate::specs::ByImage::seen_from))]
+fn seen_from(
+    initial_src_cid: &[u8],
+    original_dst_cid: &[u8],
+    retry_seen: bool,
+    retry_src_cid: &[u8],
+) -> Result<SeenConnectionIds, Refusal>
+    ensures { outcome_of result ≡ seen_from initial_src_cid.now original_dst_cid.now retry_seen retry_src_cid.now }
+{
+    let initial_src_cid = imaged::cid_from(initial_src_cid)?;
+    let original_dst_cid = imaged::cid_from(original_dst_cid)?;
+    let value = imaged::cid_from(retry_src_cid)?;
+    Ok(SeenConnectionIds {
+        initial_src_cid,
+        original_dst_cid,
+        retry_src_cid: Optional {
+            present: retry_seen,
+            value,
+        },
+    })
+}
+
+#[tactic(auto, unfolding(crate::specs::ByImage::image_authenticate))]
+pub fn authenticate_cids(
+    side: Side,
+    record: &[u8],
+    initial_src_cid: &[u8],
+    original_dst_cid: &[u8],
+    retry_seen: bool,
+    retry_src_cid: &[u8],
+) -> Result<(), Refusal>
+    ensures { outcome_of result ≡ image_authenticate side «record».now (seen_from initial_src_cid.now original_dst_cid.now retry_seen retry_src_cid.now) }
+{
+    let r = imaged::record_from(record)?;
+    let seen = seen_from(initial_src_cid, original_dst_cid, retry_seen, retry_src_cid)?;
+    authentication::authenticate_cids(side, r, seen)
 }

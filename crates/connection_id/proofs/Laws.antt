@@ -6,10 +6,13 @@
 --     cid_none          the one of length 0 is the empty ID
 --     cid_read_lem      the ID of at most 20 bytes is well formed
 --     cid_same          the bytes of the ID of some bytes are these
+--     same_exactly      two IDs are the same exactly if they are equal, well formed or not
+--     same_told         well-formed ones exactly if their bytes are
 --     cid_back          a written ID reads back, with any bytes behind it
 --     cid_sound         an accepted ID is well formed, its count within the input, and its bytes the only form of it
 use Prim.Native.Nat.{ℕ, ◌+◌, ◌-◌, ◌≤◌}
-use mathlib.Core.Path.{◌≡◌, ap, ap₂, sym, ◌∙◌}
+use mathlib.Core.Path.{◌≡◌, refl, ap, ap₂, sym, ◌∙◌}
+use mathlib.Core.Logic.{◌↔◌}
 use mathlib.Core.List.{List, [], ◌∷◌, ◌++◌}
 use mathlib.Core.Bool.{true}
 use native.Mathlib.Omega.{arith}
@@ -22,10 +25,10 @@ use Rattle.refusal.specs.Outcome.{accepted, all}
 use Rattle.std.proofs.lemmas.Bool.{and_parts}
 use Rattle.refusal.proofs.Laws.{picked, all_at}
 use Rattle.words.specs.Words.{zeros}
-use Rattle.words.proofs.Laws.{zeros_are, zeros_replicate}
+use Rattle.words.proofs.Laws.{same_itself, same_are, zeros_are, zeros_replicate}
 use Rattle.connection_id.specs.declared.ConnectionId.{ConnectionId}
 use Rattle.words.specs.Words.{zeros}
-use Rattle.connection_id.specs.ConnectionId.{cid_of, cid_bytes, formed_cid, read_cid, cid_wire}
+use Rattle.connection_id.specs.ConnectionId.{cid_of, cid_bytes, formed_cid, same_cid, read_cid, cid_wire}
 
 pub record Cid (c : ConnectionId) : Type 0 where
   pub long : length c.bytes ≡ 20
@@ -64,6 +67,22 @@ cid_read_lem v h =
 pub cid_same : (v : List ℕ) → cid_bytes (cid_of v) ≡ v
 unfolding cid_of
 cid_same v = take-append_seam v _
+
+same : (c d : ConnectionId) → same_cid c d ≡ true → c ≡ d
+unfolding same_cid
+same c d h = let p = and_parts _ _ h in ap₂ (λ n b. record { len = n; bytes = b }) (eqb-true _ _ p.0) (same_are _ _ p.1)
+
+itself : (c : ConnectionId) → same_cid c c ≡ true
+unfolding same_cid
+itself c = rw (eq-eqb c.len c.len refl, same_itself c.bytes)
+
+pub same_exactly : (c d : ConnectionId) → (same_cid c d ≡ true) ↔ (c ≡ d)
+same_exactly c d = (same c d, λ e. ap (same_cid c) (sym e) ∙ itself c)
+
+pub same_told : (c d : ConnectionId) → formed_cid c ≡ true → formed_cid d ≡ true → (same_cid c d ≡ true) ↔ (cid_bytes c ≡ cid_bytes d)
+same_told c d f g =
+    let s = same_exactly c d in
+    (λ h. ap cid_bytes (s.0 h), λ e. s.1 (sym (cid_of_lem c f) ∙ ap cid_of e ∙ cid_of_lem d g))
 
 pub cid_back : (c : ConnectionId) (rest : List ℕ) → formed_cid c ≡ true → read_cid (cid_wire c ++ rest) ≡ accepted (c, c.len + 1)
 unfolding read_cid

@@ -3,7 +3,7 @@ use mathlib.Core.Path.{refl}
 use mathlib.Core.Option.{or_else}
 use Rattle.refusal.specs.Outcome.{all, front, store}
 use Rattle.varint.specs.Number.{read_number, form, tag_of}
-use Rattle.connection_id.specs.ConnectionId.{cid_of, formed_cid}
+use Rattle.connection_id.specs.ConnectionId.{cid_of, formed_cid, same_cid}
 use Rattle.catalogue.specs.Catalogue.{ids, defaults, other_kinds, kinds, kind_at, id_at, place_of, fits, illegal, parameter}
 use Rattle.catalogue.specs.Sum.{sum}
 use Rattle.record.specs.Values.{no_values, upd, number_in, number_out, optional_in, optional_out, flag_out, cid_in, cid_out, token_in, token_out, family_in, family_out, address_in, address_out, no_reserved, no_order, record_of, other_values, values_of}
@@ -16,8 +16,9 @@ use Rattle.order.specs.Order.{permutation, catalogue_order, order_fault}
 use Rattle.tidy.specs.Tidying.{tidy}
 use Rattle.resumption.specs.Resumption.{remembered, limits_kept, size_rank, nothing_reduced, resume}
 use Rattle.resumption.specs.AbsentAsZero.{sized}
+use Rattle.authentication.specs.Authentication.{formed_seen, has_needed, retry_as_seen, as_seen, authenticate_cids}
 use Rattle.examples.specs.Examples.{Each, with, examples}
 
 pub hold : Each examples
-unfolding all front store read_number form tag_of cid_of formed_cid ids defaults other_kinds kinds kind_at id_at place_of fits illegal parameter no_values upd number_in number_out optional_in optional_out flag_out cid_in cid_out token_in token_out family_in family_out address_in address_out no_reserved no_order record_of other_values values_of formed_optional formed_optional_cid formed_token formed_optional_token formed_family formed_address formed_reserved formed_order well_formed number_rules presence_rules value_rules bare read_parameter receive step parse judge read reserved_bytes parameter_at extension permutation catalogue_order order_fault or_else order_of write length_of sum tidy remembered limits_kept size_rank nothing_reduced resume sized with examples
-hold = (refl, (refl, (refl, (refl, (refl, (refl, (refl, (refl, (refl, (refl, (refl, (refl, (refl, (refl, (refl, (refl, (refl, (refl, (refl, (refl, (refl, (refl, (refl, (refl, (refl, (refl, (refl, (refl, (refl, (refl, (refl, (refl, (refl, (refl, (refl, (refl, (refl, (refl, (refl, (refl, (refl, (refl, (refl, (refl, (refl, (refl, (refl, (refl, (refl, (refl, tt))))))))))))))))))))))))))))))))))))))))))))))))))
+unfolding all front store read_number form tag_of cid_of formed_cid same_cid ids defaults other_kinds kinds kind_at id_at place_of fits illegal parameter no_values upd number_in number_out optional_in optional_out flag_out cid_in cid_out token_in token_out family_in family_out address_in address_out no_reserved no_order record_of other_values values_of formed_optional formed_optional_cid formed_token formed_optional_token formed_family formed_address formed_reserved formed_order well_formed number_rules presence_rules value_rules bare read_parameter receive step parse judge read reserved_bytes parameter_at extension permutation catalogue_order order_fault or_else order_of write length_of sum tidy remembered limits_kept size_rank nothing_reduced resume sized formed_seen has_needed retry_as_seen as_seen authenticate_cids with examples
+hold = (refl, (refl, (refl, (refl, (refl, (refl, (refl, (refl, (refl, (refl, (refl, (refl, (refl, (refl, (refl, (refl, (refl, (refl, (refl, (refl, (refl, (refl, (refl, (refl, (refl, (refl, (refl, (refl, (refl, (refl, (refl, (refl, (refl, (refl, (refl, (refl, (refl, (refl, (refl, (refl, (refl, (refl, (refl, (refl, (refl, (refl, (refl, (refl, (refl, (refl, (refl, (refl, (refl, (refl, (refl, (refl, (refl, (refl, (refl, (refl, (refl, (refl, (refl, tt)))))))))))))))))))))))))))))))))))))))))))))))))))))))))))))))

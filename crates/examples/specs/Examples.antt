@@ -1,13 +1,14 @@
--- The worked examples (a) to (n), some lengths, second copies, other orders, faults of an order, datagram sizes and kinds of fault: for each a side, an operation,
--- its input and the outcome. The definitions are those that the contracts of reading, tidying, writing, the length, the first fault of an order and
--- resumption cite.
+-- The worked examples (a) to (n), some lengths, second copies, other orders, faults of an order, datagram sizes, kinds of fault and the handshakes of RFC 9000
+-- section 7.3: for each a side, an operation, its input and the outcome. The definitions are those that the contracts of reading, tidying, writing, the length,
+-- the first fault of an order, resumption and the connection ID check cite.
 use Rattle.std.specs.Prelude.{ℕ, ◌+◌, ◌≡◌, List, [], ◌∷◌, ◌++◌, Bool, true, false, length, replicate, take}
 use Rattle.std.proofs.Math.Option.{Option, none, some}
-use Rattle.refusal.specs.Outcome.{Outcome, accepted, refused}
+use Rattle.refusal.specs.Outcome.{Outcome, accepted, refused, and_then}
 use Rattle.varint.specs.Number.{bound}
+use Rattle.connection_id.specs.declared.ConnectionId.{ConnectionId}
 use Rattle.connection_id.specs.ConnectionId.{cid_of}
 use Rattle.record.specs.declared.TransportParameters.{TransportParameters}
-use Rattle.record.specs.Optional.{OptionalNumber}
+use Rattle.record.specs.Optional.{OptionalNumber, OptionalConnectionId}
 use Rattle.std.specs.Prelude.{None, Some}
 use Rattle.record.specs.declared.WriteOrder.{WriteOrder}
 use Rattle.rules.specs.declared.Side.{Side}
@@ -20,6 +21,8 @@ use Rattle.order.specs.Order.{order_fault}
 use Rattle.tidy.specs.Tidying.{tidy}
 use Rattle.resumption.specs.Resumption.{resume}
 use Rattle.resumption.specs.AbsentAsZero.{sized}
+use Rattle.authentication.specs.declared.SeenConnectionIds.{SeenConnectionIds}
+use Rattle.authentication.specs.Authentication.{authenticate_cids}
 
 pub data Example : Type 0 where
   -- an extension that a side reads
@@ -34,6 +37,8 @@ pub data Example : Type 0 where
   ordering : List ℕ → Option ℕ → Example
   -- a record that is resumed to, and the one remembered
   resuming : TransportParameters → TransportParameters → Outcome (Unit {0}) → Example
+  -- an extension that a side reads, and the IDs that packets carried
+  authenticating : Side → List ℕ → SeenConnectionIds → Outcome (Unit {0}) → Example
 
 -- what an example states. The buffers of tidying and writing are exactly long enough
 abbrev pub Holds : Example → Type 0
@@ -43,6 +48,7 @@ Holds (writing r t) = write r (replicate (length t) 0) ≡ (accepted (length t),
 Holds (measuring r o) = length_of r ≡ o
 Holds (ordering os o) = order_fault os ≡ o
 Holds (resuming new cached o) = resume new cached ≡ o
+Holds (authenticating s e seen o) = and_then (read s e) (λ r. authenticate_cids s r seen) ≡ o
 
 abbrev pub Each : List Example → Type 0
 Each [] = Unit {0}
@@ -111,6 +117,35 @@ unknown = 0x40 ∷ 0x1b ∷ 0x40 ∷ 0x01 ∷ 0xaa ∷ []
 
 abbrev pub grease : List ℕ
 grease = 0x6a ∷ 0xb2 ∷ 0x00 ∷ []
+
+-- the IDs of RFC 9000 section 7.3: C1 of the client, S1 its choice for the server, S2 of the Retry, S3 of the server
+abbrev pub c1 : List ℕ
+c1 = replicate 8 0xc1
+
+abbrev pub s1 : List ℕ
+s1 = replicate 8 0xd1
+
+abbrev pub s2 : List ℕ
+s2 = replicate 8 0xd2
+
+abbrev pub s3 : List ℕ
+s3 = replicate 8 0xd3
+
+-- a parameter of an ID: original_dst_cid is 0x00, initial_src_cid 0x0f, retry_src_cid 0x10
+abbrev pub says : ℕ → List ℕ → List ℕ
+says id v = id ∷ length v ∷ v
+
+abbrev pub no_retry : OptionalConnectionId
+no_retry = record { present = false; value = cid_of [] }
+
+abbrev pub retry : List ℕ → OptionalConnectionId
+retry v = record { present = true; value = cid_of v }
+
+abbrev pub seen : List ℕ → List ℕ → OptionalConnectionId → SeenConnectionIds
+seen initial original retried = record { initial_src_cid = cid_of initial; original_dst_cid = cid_of original; retry_src_cid = retried }
+
+abbrev pub too_long : ConnectionId
+too_long = record { len = 21; bytes = replicate 20 0 }
 
 unfoldable pub examples : List Example
 examples =
@@ -188,4 +223,21 @@ examples =
     ∷ reading Client (addressed 1 21 0) (refused 11)
     ∷ reading Client (addressed 1 1 1) (refused 11)
     ∷ reading Client (addressed 0 1 1) (refused 2)
+    ∷  -- who is at the other end (request 07). The handshakes of figures 7 and 8, without Retry and with one: either side accepts the other
+    authenticating Server (says 0x0f c1) (seen c1 s1 no_retry) (accepted tt)
+    ∷ authenticating Client (says 0x00 s1 ++ says 0x0f s3) (seen s3 s1 no_retry) (accepted tt)
+    ∷ authenticating Server (says 0x0f c1) (seen c1 s1 (retry s2)) (accepted tt)
+    ∷ authenticating Client (says 0x00 s1 ++ (says 0x0f s3 ++ says 0x10 s2)) (seen s3 s1 (retry s2)) (accepted tt)
+    ∷  -- a Retry that the server does not know of; none, and the server knows of one; another Retry than the server's
+    authenticating Client (says 0x00 s1 ++ says 0x0f s3) (seen s3 s1 (retry s2)) (refused 13)
+    ∷ authenticating Client (says 0x00 s1 ++ (says 0x0f s3 ++ says 0x10 s2)) (seen s3 s1 no_retry) (refused 14)
+    ∷ authenticating Client (says 0x00 s1 ++ (says 0x0f s3 ++ says 0x10 s2)) (seen s3 s1 (retry s3)) (refused 14)
+    ∷  -- another peer; another first packet; no ID at all, which reading accepts; an absence before a mismatch; IDs of equal bytes and zeros
+    authenticating Server (says 0x0f c1) (seen s2 s1 no_retry) (refused 14)
+    ∷ authenticating Client (says 0x00 s2 ++ says 0x0f s3) (seen s3 s1 no_retry) (refused 14)
+    ∷ authenticating Server [] (seen c1 s1 no_retry) (refused 13)
+    ∷ authenticating Client (says 0x0f s2) (seen s3 s1 no_retry) (refused 13)
+    ∷ authenticating Server (says 0x0f (7 ∷ 0 ∷ [])) (seen (7 ∷ []) s1 no_retry) (refused 14)
+    ∷  -- an ID of over 20 bytes that a server does not look at
+    authenticating Server (says 0x0f c1) (record { initial_src_cid = cid_of c1; original_dst_cid = too_long; retry_src_cid = no_retry }) (refused 7)
     ∷ []

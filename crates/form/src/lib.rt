@@ -4,7 +4,8 @@
 ghost use Rattle.std.specs.Prelude.{◌<◌, IfErr};
 
 use catalogue::PLACES;
-use image::RECORD_SIZE;
+use connection_id::ConnectionId;
+use image::{CID_SIZE, RECORD_SIZE};
 use marks::{is_marked, with_mark};
 use record::TransportParameters;
 use show::rows::{ADDRESS_FLAG, Kind, Row, row_named};
@@ -80,6 +81,13 @@ fn put_counted(digits: &[u8], out: &mut [u8], at: usize, room: usize) -> Result<
     Ok(())
 }
 
+// The image of the connection ID that some digits say.
+pub fn cid_image_of(digits: &[u8]) -> Result<[u8; CID_SIZE], Complaint> {
+    let mut out = [0u8; CID_SIZE];
+    put_counted(digits, &mut out, 0, ConnectionId::MAX_SIZE)?;
+    Ok(out)
+}
+
 // An identifier, and a payload behind its length.
 fn put_reserved(line: &[u8], out: &mut [u8], at: usize) -> Result<(), Complaint>
     requires { at < 65536 }
@@ -121,7 +129,9 @@ fn put_value(row: Row, line: &[u8], out: &mut [u8]) -> Result<(), Complaint> {
         }
         Kind::Flag | Kind::Address => unless(is_flag(value), Complaint::Flag),
         Kind::Token | Kind::AddressToken => put_16(value, out, at).ok_or(Complaint::Token),
-        Kind::ConnectionId | Kind::AddressId => put_counted(value, out, at, 20),
+        Kind::ConnectionId | Kind::AddressId => {
+            put_counted(value, out, at, ConnectionId::MAX_SIZE)
+        }
         Kind::Reserved => put_reserved(line, out, at),
         Kind::V4 => {
             put_list(value, 0, 4, b'.', out, at).ok_or(Complaint::Address)?;

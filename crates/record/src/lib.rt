@@ -91,6 +91,16 @@ impl<const N: usize> SocketAddr<N> {
     }
 }
 
+impl Optional<ConnectionId> {
+    // Whether the ID is well formed, and empty where it is absent.
+    #[tactic(auto, using(std::proofs::lemmas::Bool::Decides::nat_tests), unfolding(crate::specs::Record::formed_optional_cid, refusal::specs::Outcome::all))]
+    pub fn is_well_formed(&self) -> bool
+        ensures { result ≡ formed_optional_cid self.now }
+    {
+        self.value.is_well_formed() & (self.present | (self.value.len == 0))
+    }
+}
+
 impl ResetToken {
     pub const SIZE: usize = 16;
 }
@@ -115,13 +125,6 @@ fn formed_number(o: Option<u64>) -> bool
     ensures { result ≡ formed_optional o }
 {
     o.unwrap_or(0) <= VarInt::MAX.0
-}
-
-#[tactic(auto, using(std::proofs::lemmas::Bool::Decides::nat_tests), unfolding(crate::specs::Record::formed_optional_cid, refusal::specs::Outcome::all))]
-fn formed_cid(o: &Optional<ConnectionId>) -> bool
-    ensures { result ≡ formed_optional_cid o.now }
-{
-    o.value.is_well_formed() & (o.present | (o.value.len == 0))
 }
 
 // By `zero_from`, which goes by words, as an ID: `all_zero` goes by bytes.
@@ -216,9 +219,9 @@ impl TransportParameters {
             & formed_token(&self.stateless_reset_token)
             & formed_number(self.max_datagram_frame_size)
             & formed_address(&self.preferred_address)
-            & formed_cid(&self.original_dst_cid)
-            & formed_cid(&self.initial_src_cid)
-            & formed_cid(&self.retry_src_cid)
+            & self.original_dst_cid.is_well_formed()
+            & self.initial_src_cid.is_well_formed()
+            & self.retry_src_cid.is_well_formed()
             & formed_number(self.min_ack_delay)
             & formed_order(&self.write_order)
     }

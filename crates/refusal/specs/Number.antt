@@ -1,7 +1,7 @@
 -- The number of each refusal.
 use Rattle.std.specs.Prelude.{ℕ}
 use Rattle.refusal.specs.declared.Refusal.{Refusal}
-use Rattle.refusal.specs.declared.Refusal.TheVariants.{Malformed, IllegalValue, UnexpectedEnd, VarIntBoundsExceeded, BufferTooShort, InvalidOrder, IllFormed, LimitReduced, InvalidDraw, Cut, Misfit, SecondCopy}
+use Rattle.refusal.specs.declared.Refusal.TheVariants.{Malformed, IllegalValue, UnexpectedEnd, VarIntBoundsExceeded, BufferTooShort, InvalidOrder, IllFormed, LimitReduced, InvalidDraw, Cut, Misfit, SecondCopy, CidAbsent, CidMismatch}
 
 abbrev pub number_of : Refusal → ℕ
 number_of Malformed = 1
@@ -16,3 +16,5 @@ number_of InvalidDraw = 9
 number_of Cut = 10
 number_of Misfit = 11
 number_of SecondCopy = 12
+number_of CidAbsent = 13
+number_of CidMismatch = 14

@@ -34,6 +34,10 @@ pub enum Refusal {
     Misfit,
     // 12: a second copy of a known parameter
     SecondCopy,
+    // 13: a connection ID that is needed and that the record does not have
+    CidAbsent,
+    // 14: a connection ID other than the one seen, or one of a Retry and none was seen
+    CidMismatch,
 }
 
 impl Refusal {
@@ -54,6 +58,8 @@ impl Refusal {
             Refusal::Cut => 10,
             Refusal::Misfit => 11,
             Refusal::SecondCopy => 12,
+            Refusal::CidAbsent => 13,
+            Refusal::CidMismatch => 14,
         }
     }
 }
@@ -67,12 +73,14 @@ impl fmt::Display for Refusal {
             Refusal::VarIntBoundsExceeded => "the number is 2^62 or more",
             Refusal::BufferTooShort => "the output is too short",
             Refusal::InvalidOrder => "the order is not a permutation of 0 to 20",
-            Refusal::IllFormed => "the record is not well formed",
+            Refusal::IllFormed => "the record or a connection ID is not well formed",
             Refusal::LimitReduced => "a remembered limit is reduced",
             Refusal::InvalidDraw => "a drawn value is out of range",
             Refusal::Cut => "a parameter is cut off",
             Refusal::Misfit => "a value does not fit",
             Refusal::SecondCopy => "a parameter is sent twice",
+            Refusal::CidAbsent => "a connection ID that is needed is absent",
+            Refusal::CidMismatch => "a connection ID is not the one seen",
         })
     }
 }

@@ -182,6 +182,12 @@ struct Input<'a> {
     w: &'a [u8],
 }
 
+// The flag of a Retry stands above the side.
+fn authenticate_cids(side: u8, i: Input<'_>) -> u8 {
+    let retry_seen = (i.number >> 8 & 0xff) as u8;
+    yuthpram::yuthpram_authenticate_cids(side, i.x, i.y, i.z, retry_seen, i.w)
+}
+
 fn call(operation: Operation, i: Input<'_>, out: &mut [u8]) -> Option<Called> {
     let side = (i.number & 0xff) as u8;
     let called = match operation {
@@ -202,6 +208,7 @@ fn call(operation: Operation, i: Input<'_>, out: &mut [u8]) -> Option<Called> {
         Operation::CheckOrder => plain(yuthpram::yuthpram_check_order(i.x)),
         Operation::Length => counting(|n| yuthpram::yuthpram_length(i.x, n)),
         Operation::OrderFault => order_fault(i.x),
+        Operation::Authentication => plain(authenticate_cids(side, i)),
     };
     Some(called)
 }
@@ -269,7 +276,7 @@ fn judged(list: &mut Stdin, h: Head) -> Option<bool> {
 }
 
 // One entry; none where the list ends, with it or within it, or has no such entry.
-fn entry(list: &mut Stdin, tallies: &mut [Tally; 17]) -> Option<()> {
+fn entry(list: &mut Stdin, tallies: &mut [Tally; OPERATIONS.len()]) -> Option<()> {
     let mut head = [0u8; 32];
     next(list, &mut head, 32)?;
     let h = head_of(&head)?;
@@ -281,7 +288,7 @@ fn entry(list: &mut Stdin, tallies: &mut [Tally; 17]) -> Option<()> {
 }
 
 // Goes through the list. The count of turns is for the proof that it ends: no list is so long.
-fn replay(list: &mut Stdin, tallies: &mut [Tally; 17]) {
+fn replay(list: &mut Stdin, tallies: &mut [Tally; OPERATIONS.len()]) {
     for _ in 0..u64::MAX {
         if entry(list, tallies).is_none() {
             return;
@@ -293,7 +300,7 @@ fn main(rt: HostRuntime) -> io::Result<()> {
     let mut tallies = [Tally {
         cases: 0,
         differences: 0,
-    }; 17];
+    }; OPERATIONS.len()];
     let mut list = rt.stdin();
     replay(&mut list, &mut tallies);
     for (operation, tally) in OPERATIONS.iter().zip(tallies) {

@@ -20,10 +20,11 @@ pub enum Operation {
     CheckOrder,
     Length,
     OrderFault,
+    Authentication,
 }
 
 // All of them, each at its number: an array and no TryFrom, since the tallies are printed in its order.
-pub const OPERATIONS: [Operation; 17] = [
+pub const OPERATIONS: [Operation; 18] = [
     Operation::NumberSize,
     Operation::NumberRead,
     Operation::NumberWrite,
@@ -41,6 +42,7 @@ pub const OPERATIONS: [Operation; 17] = [
     Operation::CheckOrder,
     Operation::Length,
     Operation::OrderFault,
+    Operation::Authentication,
 ];
 
 impl fmt::Display for Operation {
@@ -63,6 +65,7 @@ impl fmt::Display for Operation {
             Operation::CheckOrder => "check_order",
             Operation::Length => "length",
             Operation::OrderFault => "order_fault",
+            Operation::Authentication => "authentication",
         })
     }
 }

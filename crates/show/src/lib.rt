@@ -26,7 +26,7 @@ fn part<'a>(image: &'a [u8], at: usize, n: usize) -> &'a [u8] {
 
 // An ID, behind its length.
 #[derive(Clone, Copy)]
-struct ConnectionId<'a>(&'a [u8]);
+pub struct ConnectionId<'a>(pub &'a [u8]);
 
 impl<'a> Display for ConnectionId<'a> {
     fn fmt<W: fmt::Write>(&self, f: &mut fmt::Formatter<W>) -> fmt::Result {

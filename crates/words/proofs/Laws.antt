@@ -1,5 +1,6 @@
 -- Laws of the words of specs/Words.antt. Assumes nothing.
 --     every_at, every_of    every element passes exactly if each does
+--     same_itself, same_are    two lists hold the same exactly if they are equal
 --     zeros_are         zeros are a list of zeros
 --     zeros_replicate   a list of zeros is zeros
 --     zeros_append      zeros, part by part
@@ -31,7 +32,17 @@ use Rattle.std.proofs.lemmas.Bool.Decides.{nat_tests}
 use Rattle.std.proofs.lemmas.List.{drop_all, drop_more, drop-replicate}
 use Rattle.std.proofs.lemmas.Nat.{le_or_l, le_or_r}
 use Rattle.std.specs.Int.{w64, from_le_bytes}
-use Rattle.words.specs.Words.{every, zeros, word_of, bytewise, Word, elements}
+use Rattle.words.specs.Words.{every, zeros, same_bytes, word_of, bytewise, Word, elements}
+
+pub same_itself : (l : List ℕ) → same_bytes l l ≡ true
+same_itself [] = refl
+same_itself (b ∷ l) = rw (eq-eqb b b refl) (same_itself l)
+
+pub same_are : (a b : List ℕ) → same_bytes a b ≡ true → a ≡ b
+same_are [] [] h = refl
+same_are [] (y ∷ b) h = cc
+same_are (x ∷ a) [] h = cc
+same_are (x ∷ a) (y ∷ b) h = let p = and_parts (eqb x y) (same_bytes a b) h in ap₂ ◌∷◌ (eqb-true x y p.0) (same_are a b p.1)
 
 pub zeros_are : (l : List ℕ) → zeros l ≡ true → l ≡ replicate (length l) 0
 zeros_are [] h = refl

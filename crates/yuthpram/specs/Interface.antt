@@ -17,7 +17,7 @@ use Rattle.building.specs.declared.Settings.{Settings}
 use Rattle.building.specs.Building.{settings_fit, build}
 use Rattle.resumption.specs.Resumption.{issue_limit}
 use Rattle.image.specs.Image.{record_from, cid_image, cid_from}
-use Rattle.by_image.specs.ByImage.{given, record_store, image_read, image_check, image_write, image_length, image_resume}
+use Rattle.by_image.specs.ByImage.{given, record_store, image_read, image_check, image_write, image_length, image_resume, seen_from, image_authenticate}
 
 -- 0 is a client, anything else a server
 abbrev pub side_of : ℕ → Side
@@ -146,3 +146,8 @@ limit_into (refused e) n = (e, n)
 
 abbrev pub limit_read : List ℕ → ℕ → ℕ × ℕ
 limit_read image limit = limit_into (record_from image) limit
+
+-- WHO IS AT THE OTHER END. 0 is no Retry, anything else one
+abbrev pub ids_check : ℕ → List ℕ → List ℕ → List ℕ → ℕ → List ℕ → ℕ
+ids_check side image initial original retry_seen retry =
+    code (image_authenticate (side_of side) image (seen_from initial original (not (eqb retry_seen 0)) retry))

@@ -3,7 +3,7 @@
 #![tactic(auto)]
 
 ghost use Rattle.std.specs.Prelude.{◌≡◌};
-ghost use Rattle.yuthpram.specs.Interface.{number_size, number_read, number_write, cid_read, cid_write, record_default, record_check, record_read, order_check, order_position, record_write, record_length, tidied, record_new, resume_check, limit_read};
+ghost use Rattle.yuthpram.specs.Interface.{number_size, number_read, number_write, cid_read, cid_write, record_default, record_check, record_read, order_check, order_position, record_write, record_length, tidied, record_new, resume_check, limit_read, ids_check};
 
 #[unsafe(no_mangle)]
 pub extern "C" fn yuthpram_number_size(value: u64, count: &mut usize) -> u8
@@ -122,4 +122,25 @@ pub extern "C" fn yuthpram_issue_cids_limit(record: &[u8], limit: &mut u64) -> u
     ensures { (result, limit.new) ≡ limit_read «record».now limit.old }
 {
     yuthpram::yuthpram_issue_cids_limit(record, limit)
+}
+
+#[unsafe(no_mangle)]
+pub extern "C" fn yuthpram_authenticate_cids(
+    side: u8,
+    record: &[u8],
+    initial_src_cid: &[u8],
+    original_dst_cid: &[u8],
+    retry_seen: u8,
+    retry_src_cid: &[u8],
+) -> u8
+    ensures { result ≡ ids_check side «record».now initial_src_cid.now original_dst_cid.now retry_seen retry_src_cid.now }
+{
+    yuthpram::yuthpram_authenticate_cids(
+        side,
+        record,
+        initial_src_cid,
+        original_dst_cid,
+        retry_seen,
+        retry_src_cid,
+    )
 }

@@ -4,13 +4,14 @@ ghost use Rattle.varint.specs.Number.{read_number, write_number};
 ghost use Rattle.order.specs.Order.{order_fault};
 ghost use Rattle.reader.specs.Reading.{read};
 ghost use Rattle.tidy.specs.Tidying.{tidy};
-ghost use Rattle.by_image.specs.ByImage.{image_length, image_resume, image_check};
-ghost use Rattle.yuthpram_cli.specs.Statuses.{status_of, fault_status};
+ghost use Rattle.by_image.specs.ByImage.{image_length, image_resume, image_check, image_authenticate};
+ghost use Rattle.yuthpram_cli.specs.Statuses.{status_of, fault_status, seen_of};
 
 use crate::Status;
 use catalogue::{MAX_EXTENSION, PLACES};
+use differing::{SeenImages, note_differing, note_too_long};
 use explain::{note_culprit, note_order_fault, note_reading, note_refusal};
-use image::RECORD_SIZE;
+use image::{CID_SIZE, RECORD_SIZE};
 use reduced::note_reduced;
 use refusal::Refusal;
 use rules::Side;
@@ -140,6 +141,31 @@ pub fn validate_resumption_from(out: &mut Out, record: &[u8], cached: &[u8]) -> 
         note_reduced(out, record, cached);
     } else if by_image::length(cached).is_err() {
         out.note("it is the remembered one\n");
+    }
+    Status::Refused
+}
+
+// Tells whether the peer with this record, by its image, is the one that packets came from, and if not, which IDs differ.
+pub fn authenticate_cids(out: &mut Out, side: Side, record: &[u8], seen: &SeenImages) -> Status
+    ensures { result ≡ status_of (image_authenticate side «record».now (seen_of seen.now)) }
+{
+    let answer = by_image::authenticate_cids(
+        side,
+        record,
+        &seen.initial_src_cid,
+        &seen.original_dst_cid,
+        seen.retry_src_cid.is_some(),
+        &seen.retry_src_cid.unwrap_or([0; CID_SIZE]),
+    );
+    let Err(r) = answer else {
+        out.say("accepted\n");
+        return Status::Answered;
+    };
+    note_refusal(out, r);
+    if let Refusal::IllFormed = r {
+        note_too_long(out, seen);
+    } else {
+        note_differing(out, side, record, seen);
     }
     Status::Refused
 }

@@ -13,7 +13,10 @@ pub enum Complaint<'a> {
     Surplus,
     NotDecimal,
     NoRemembered,
+    NoIds,
     NoSide,
+    // a connection ID that is none
+    NoId,
     // the input
     TooLong,
     NoDigit(usize),
@@ -36,6 +39,7 @@ impl<'a> Complaint<'a> {
                 | Complaint::Surplus
                 | Complaint::NotDecimal
                 | Complaint::NoRemembered
+                | Complaint::NoIds
         )
     }
 }
@@ -48,7 +52,12 @@ impl<'a> Display for Complaint<'a> {
             Complaint::Surplus => write!(f, "a word too many"),
             Complaint::NotDecimal => write!(f, "not a decimal number"),
             Complaint::NoRemembered => write!(f, "no file of the remembered record"),
+            Complaint::NoIds => write!(f, "the connection IDs seen are three words"),
             Complaint::NoSide => write!(f, "the side that reads is client or server (try --help)"),
+            Complaint::NoId => write!(
+                f,
+                "a connection ID is hexadecimal or (empty), and that of no Retry is none"
+            ),
             Complaint::TooLong => write!(
                 f,
                 "the input is over the limit of 65536 bytes, or of 262144 characters of hexadecimal"

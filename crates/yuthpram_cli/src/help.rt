@@ -17,6 +17,8 @@ const USAGE: &str =
   yuthpram order_fault [PLACE ..]      tell whether an order is a permutation of 0 to 20, and if not, its first fault
   yuthpram validate_resumption_from CACHED [FILE]
                                        tell whether a record may be resumed to from the remembered one in CACHED, and if not, what is reduced
+  yuthpram authenticate_cids SIDE INITIAL_SRC ORIGINAL_DST RETRY_SRC [FILE]
+                                       tell SIDE whether the peer with this record is the one that packets came from, and if not, which IDs differ
   yuthpram number HEX                  decode a number: its value and how many bytes it takes
   yuthpram number --write DECIMAL      encode a number in its shortest form
 ";
@@ -25,6 +27,9 @@ const DETAILS: &str = "
 HEX may have spaces and colons in it. Without HEX, FILE or PLACE, standard input is read; --raw in the place of HEX takes the bytes of standard
 input as they are. An extension, and a record in text form, may have 65536 bytes. The entries of an order are decimal, at most 255 of
 them, and positions count from 0.
+
+The connection IDs that packets carried are hexadecimal or (empty): the Source Connection ID of the peer's first Initial, the Destination
+Connection ID of the client's first Initial, and the Source Connection ID of the Retry, or none without one.
 
 The text form of a record is what read shows: lines of a name and a value. Numbers are decimal, IDs and tokens hexadecimal, and what stands
 behind the value of a number is ignored. A flag has no value, or set. What has no line has its default, or is absent. Lines that read does

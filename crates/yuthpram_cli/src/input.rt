@@ -1,8 +1,9 @@
 // The words of the command line, and a command's input.
-ghost use Rattle.std.specs.Prelude.{◌≡◌, ◌+◌, ◌<◌, ◌≤◌, length, vec_len, nat_lt, IfOk, IfErr, IsErrOf};
+ghost use Rattle.std.specs.Prelude.{◌≡◌, ◌⊎◌, ◌+◌, ◌<◌, ◌≤◌, length, vec_len, nat_lt, IfOk, IfErr, IsErrOf};
 
 use crate::complaint::Complaint;
-use image::RECORD_SIZE;
+use differing::SeenImages;
+use image::{CID_SIZE, RECORD_SIZE};
 use rules::Side;
 use std::alloc::{AllocError, Global};
 use std::env::{Env, FillError};
@@ -151,6 +152,37 @@ impl<'r> Args<'r> {
             return Err(Complaint::Surplus);
         }
         self.record_at(i)
+    }
+
+    // The connection ID that word `i` is; by its image.
+    pub fn cid_at(&self, i: usize) -> Result<[u8; CID_SIZE], Complaint<'_>>
+        ensures none { vec_len self.now.words ≤ i → IsErrOf result Complaint.NoIds }
+        ensures one { i < vec_len self.now.words → IfErr result (λ e. (e ≡ Complaint.NoId) ⊎ (e ≡ Complaint.TooLong)) }
+    {
+        match self.words.get(i) {
+            Some(Some(digits)) => {
+                form::cid_image_of(digits.as_slice()).map_err(|_| Complaint::NoId)
+            }
+            Some(None) => Err(Complaint::TooLong),
+            None => Err(Complaint::NoIds),
+        }
+    }
+
+    // The IDs that words 3 to 5 say packets carried.
+    pub fn seen(&self) -> Result<SeenImages, Complaint<'_>>
+        ensures { IfOk result (λ seen. 5 < vec_len self.now.words) }
+    {
+        let initial_src_cid = self.cid_at(3)?;
+        let original_dst_cid = self.cid_at(4)?;
+        let retry_src_cid = match self.name(5) {
+            b"none" => None,
+            _ => Some(self.cid_at(5)?),
+        };
+        Ok(SeenImages {
+            initial_src_cid,
+            original_dst_cid,
+            retry_src_cid,
+        })
     }
 
     // The words from word `start` on, or what standard input holds if there are none.

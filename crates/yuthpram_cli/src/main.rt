@@ -52,6 +52,13 @@ fn validate_resumption_from<'a>(
     Ok(answers::validate_resumption_from(out, &record, &cached))
 }
 
+fn authenticate_cids<'a>(out: &mut Out, args: &'a Args<'_>) -> Result<Status, Complaint<'a>> {
+    let side = args.side()?;
+    let seen = args.seen()?;
+    let record = args.last_record_at(6)?;
+    Ok(answers::authenticate_cids(out, side, &record, &seen))
+}
+
 fn number<'a>(out: &mut Out, args: &'a Args<'_>) -> Result<Status, Complaint<'a>> {
     if let b"--write" = args.name(2) {
         if args.is_followed(3) {
@@ -85,6 +92,7 @@ fn run<'a>(out: &mut Out, args: &'a Args<'_>) -> Result<Status, Complaint<'a>> {
         b"length" => answers::length(out, &args.last_record_at(2)?),
         b"order_fault" => answers::order_fault(out, args.entries_at(2)?.as_slice()),
         b"validate_resumption_from" => validate_resumption_from(out, args)?,
+        b"authenticate_cids" => authenticate_cids(out, args)?,
         b"number" => number(out, args)?,
         b"--help" | b"-h" => help::say_help(out),
         _ => return Err(Complaint::NoCommand),

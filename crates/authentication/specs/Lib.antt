@@ -1,0 +1,2 @@
+pub mod Authentication
+pub mod OtherEnd
