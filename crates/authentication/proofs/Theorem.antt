@@ -5,8 +5,8 @@ use mathlib.Core.List.{List, [], ◌∷◌}
 use mathlib.Core.Bool.{Bool, true, false, ◌&&◌}
 use mathlib.Core.Logic.{◌⊎◌, inl, inr}
 use Rattle.std.proofs.Math.Option.{none}
-use Rattle.std.proofs.lemmas.Bool.{and_parts}
 use Rattle.std.specs.Prelude.{None}
+use Rattle.refusal.proofs.Laws.{all_at}
 use Rattle.refusal.specs.Outcome.{Outcome, accepted, refused, all}
 use Rattle.connection_id.specs.declared.ConnectionId.{ConnectionId}
 use Rattle.connection_id.specs.ConnectionId.{cid_of, formed_cid, same_cid}
@@ -82,14 +82,9 @@ some_id = record { present = true; value = cid_of [] }
 none_id : OptionalConnectionId
 none_id = record { present = false; value = cid_of [] }
 
--- only a client may be sent it
-original : Side → OptionalConnectionId
-original Client = some_id
-original Server = none_id
-
--- a record with this max_udp_payload_size and initial_src_cid, and with what else the side needs
-asked : Side → ℕ → OptionalConnectionId → TransportParameters
-asked side size initial =
+-- a record with this max_udp_payload_size and these IDs
+asked : ℕ → OptionalConnectionId → OptionalConnectionId → OptionalConnectionId → TransportParameters
+asked size initial original retry =
     record {
       numbers = 0 ∷ size ∷ 0 ∷ 0 ∷ 0 ∷ 0 ∷ 0 ∷ 0 ∷ 3 ∷ 25 ∷ 2 ∷ [];
       disable_active_migration = false;
@@ -97,62 +92,34 @@ asked side size initial =
       initial_src_cid = initial;
       grease_quic_bit = false;
       min_ack_delay = None;
-      original_dst_cid = original side;
-      retry_src_cid = none_id;
+      original_dst_cid = original;
+      retry_src_cid = retry;
       stateless_reset_token = token_in none;
       preferred_address = address_in none;
       grease_transport_parameter = no_reserved;
       write_order = no_order;
     }
 
-seen_with : List ℕ → SeenConnectionIds
-seen_with v = record { initial_src_cid = cid_of v; original_dst_cid = cid_of []; retry_src_cid = none_id }
-
--- a max_udp_payload_size of 1200 is legal, one of 1199 is not
-independent_lem : (side : Side) (l i : Outcome (Unit {0})) → (l ≡ accepted tt) ⊎ (l ≡ refused 2)
-    → (i ≡ accepted tt) ⊎ ((i ≡ refused 13) ⊎ (i ≡ refused 14)) → Both side l i
-unfolding some_id none_id original asked seen_with all cid_of formed_cid same_cid no_reserved no_order token_in address_in family_in formed_optional formed_optional_cid formed_token formed_optional_token formed_family formed_address formed_reserved formed_order well_formed family_rules number_rules presence_rules value_rules legal check_record formed_seen has_needed retry_as_seen as_seen authenticate_cids
-independent_lem Client l i (inl e) (inl d) = (asked Client 1200 some_id, seen_with [], (sym e, sym d))
-independent_lem Client l i (inl e) (inr (inl d)) = (asked Client 1200 none_id, seen_with [], (sym e, sym d))
-independent_lem Client l i (inl e) (inr (inr d)) = (asked Client 1200 some_id, seen_with (1 ∷ []), (sym e, sym d))
-independent_lem Client l i (inr e) (inl d) = (asked Client 1199 some_id, seen_with [], (sym e, sym d))
-independent_lem Client l i (inr e) (inr (inl d)) = (asked Client 1199 none_id, seen_with [], (sym e, sym d))
-independent_lem Client l i (inr e) (inr (inr d)) = (asked Client 1199 some_id, seen_with (1 ∷ []), (sym e, sym d))
-independent_lem Server l i (inl e) (inl d) = (asked Server 1200 some_id, seen_with [], (sym e, sym d))
-independent_lem Server l i (inl e) (inr (inl d)) = (asked Server 1200 none_id, seen_with [], (sym e, sym d))
-independent_lem Server l i (inl e) (inr (inr d)) = (asked Server 1200 some_id, seen_with (1 ∷ []), (sym e, sym d))
-independent_lem Server l i (inr e) (inl d) = (asked Server 1199 some_id, seen_with [], (sym e, sym d))
-independent_lem Server l i (inr e) (inr (inl d)) = (asked Server 1199 none_id, seen_with [], (sym e, sym d))
-independent_lem Server l i (inr e) (inr (inr d)) = (asked Server 1199 some_id, seen_with (1 ∷ []), (sym e, sym d))
-
--- the same with a max_udp_payload_size of 1199
+-- one that is not legal, with the IDs of another; 1199 is under 1200
 unlawful : TransportParameters → TransportParameters
-unlawful r =
-    record {
-      numbers = 0 ∷ 1199 ∷ 0 ∷ 0 ∷ 0 ∷ 0 ∷ 0 ∷ 0 ∷ 3 ∷ 25 ∷ 2 ∷ [];
-      disable_active_migration = r.disable_active_migration;
-      max_datagram_frame_size = r.max_datagram_frame_size;
-      initial_src_cid = r.initial_src_cid;
-      grease_quic_bit = r.grease_quic_bit;
-      min_ack_delay = r.min_ack_delay;
-      original_dst_cid = r.original_dst_cid;
-      retry_src_cid = r.retry_src_cid;
-      stateless_reset_token = r.stateless_reset_token;
-      preferred_address = r.preferred_address;
-      grease_transport_parameter = r.grease_transport_parameter;
-      write_order = r.write_order;
-    }
+unlawful r = asked 1199 r.initial_src_cid r.original_dst_cid r.retry_src_cid
+
+record CidsFormed (r : TransportParameters) : Type 0 where
+  original : formed_optional_cid r.original_dst_cid ≡ true
+  initial : formed_optional_cid r.initial_src_cid ≡ true
+  retry : formed_optional_cid r.retry_src_cid ≡ true
+
+cids_formed : (r : TransportParameters) → well_formed r ≡ true → CidsFormed r
+unfolding well_formed
+cids_formed r h = let a = all_at _ h in record { original = a 6; initial = a 7; retry = a 8 }
 
 unlawful_formed : (r : TransportParameters) → well_formed r ≡ true → well_formed (unlawful r) ≡ true
-unfolding well_formed unlawful all
-unlawful_formed r h = rest _ _ _ h
-  where
-    rest : (a b c : Bool) → (a && (b && c)) ≡ true → c ≡ true
-    rest a b c e = (and_parts b c (and_parts a (b && c) e).1).1
+unfolding asked unlawful all cid_of formed_cid no_reserved no_order token_in address_in family_in formed_optional formed_token formed_optional_token formed_family formed_address formed_reserved formed_order well_formed
+unlawful_formed r h = let k = cids_formed r h in rw (k.original, k.initial, k.retry)
 
 not_legal : (side : Side) (r : TransportParameters) → legal side (unlawful r) ≡ false
-unfolding legal value_rules number_rules all unlawful
-not_legal side r = go (well_formed (unlawful r)) (family_rules r.preferred_address)
+unfolding asked unlawful legal value_rules number_rules all
+not_legal side r = go (well_formed (unlawful r)) (family_rules (unlawful r).preferred_address)
   where
     go : (a b : Bool) → (a && (b && (false && true))) ≡ false
     go true true = refl
@@ -161,12 +128,40 @@ not_legal side r = go (well_formed (unlawful r)) (family_rules r.preferred_addre
 
 illegal_lem : (side : Side) (r : TransportParameters) (seen : SeenConnectionIds) → Formed r seen
     → (q : TransportParameters) × ((check_record side q ≡ refused 2) × (authenticate_cids side q seen ≡ authenticate_cids side r seen))
-unfolding check_record unlawful
+unfolding check_record asked unlawful
 illegal_lem side r seen f = (unlawful r, (rw (unlawful_formed r f.0, not_legal side r), looks side))
   where
     looks : (s : Side) → authenticate_cids s (unlawful r) seen ≡ authenticate_cids s r seen
     looks Server = server_looks_lem (unlawful r) r seen seen (unlawful_formed r f.0, f.1) f refl refl
     looks Client = client_looks_lem (unlawful r) r seen (unlawful_formed r f.0, f.1) f refl refl refl
+
+-- a legal record to which this is answered
+record Lawful (side : Side) (i : Outcome (Unit {0})) : Type 0 where
+  r : TransportParameters
+  seen : SeenConnectionIds
+  formed : Formed r seen
+  legal : check_record side r ≡ accepted tt
+  answer : authenticate_cids side r seen ≡ i
+
+seen_with : List ℕ → SeenConnectionIds
+seen_with v = record { initial_src_cid = cid_of v; original_dst_cid = cid_of []; retry_src_cid = none_id }
+
+lawful : (side : Side) (i : Outcome (Unit {0})) → (i ≡ accepted tt) ⊎ ((i ≡ refused 13) ⊎ (i ≡ refused 14)) → Lawful side i
+unfolding some_id none_id asked seen_with all cid_of formed_cid same_cid no_reserved no_order token_in address_in family_in formed_optional formed_optional_cid formed_token formed_optional_token formed_family formed_address formed_reserved formed_order well_formed family_rules number_rules presence_rules value_rules legal check_record formed_seen has_needed retry_as_seen as_seen authenticate_cids
+lawful Client i (inl e) = record { r = asked 1200 some_id some_id none_id; seen = seen_with []; formed = (refl, refl); legal = refl; answer = sym e }
+lawful Server i (inl e) = record { r = asked 1200 some_id none_id none_id; seen = seen_with []; formed = (refl, refl); legal = refl; answer = sym e }
+lawful Client i (inr (inl e)) = record { r = asked 1200 none_id some_id none_id; seen = seen_with []; formed = (refl, refl); legal = refl; answer = sym e }
+lawful Server i (inr (inl e)) = record { r = asked 1200 none_id none_id none_id; seen = seen_with []; formed = (refl, refl); legal = refl; answer = sym e }
+lawful Client i (inr (inr e)) = record { r = asked 1200 some_id some_id none_id; seen = seen_with (1 ∷ []); formed = (refl, refl); legal = refl; answer = sym e }
+lawful Server i (inr (inr e)) = record { r = asked 1200 some_id none_id none_id; seen = seen_with (1 ∷ []); formed = (refl, refl); legal = refl; answer = sym e }
+
+independent_lem : (side : Side) (l i : Outcome (Unit {0})) → (l ≡ accepted tt) ⊎ (l ≡ refused 2)
+    → (i ≡ accepted tt) ⊎ ((i ≡ refused 13) ⊎ (i ≡ refused 14)) → Both side l i
+independent_lem side l i (inl e) d = let w = lawful side i d in (w.r, w.seen, (w.legal ∙ sym e, w.answer))
+independent_lem side l i (inr e) d =
+    let w = lawful side i d in
+    let q = illegal_lem side w.r w.seen w.formed in
+    (q.0, w.seen, (q.1.0 ∙ sym e, q.1.1 ∙ w.answer))
 
 pub other_end : OtherEnd
 other_end =

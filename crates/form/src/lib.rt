@@ -1,7 +1,8 @@
 // The text form of a record: lines of a name and a value. It becomes the image of the record, line by line, or a line is found that is amiss.
 #![tactic(auto)]
 
-ghost use Rattle.std.specs.Prelude.{◌<◌, IfErr};
+ghost use Rattle.std.specs.Prelude.{◌≡◌, ◌<◌, IfErr};
+ghost use Rattle.form.specs.Ids.{count_of, cid_said};
 
 use catalogue::PLACES;
 use connection_id::ConnectionId;
@@ -65,27 +66,45 @@ fn unless(fine: bool, what: Complaint) -> Result<(), Complaint> {
     if fine { Ok(()) } else { Err(what) }
 }
 
-// Bytes behind their length. Too many get a length that is refused later.
+// How many bytes a word has. Of too many the count is one that is refused later.
+fn count_of(read: Result<usize, HexError>) -> Result<u8, Complaint>
+    ensures { result ≡ count_of read }
+{
+    match read {
+        Ok(n) => Ok(u8::try_from(n).unwrap_or(255)),
+        Err(HexError::Long) => Ok(255),
+        Err(HexError::Odd) | Err(HexError::Strange(_)) => Err(Complaint::Digits),
+    }
+}
+
+// Bytes behind their count.
 fn put_counted(digits: &[u8], out: &mut [u8], at: usize, room: usize) -> Result<(), Complaint>
     requires { at < 70000 }
 {
     if let b"(empty)" = digits {
         return Ok(());
     }
-    let len = match parse_hex(digits, out, at + 1, room) {
-        Ok(n) => u8::try_from(n).unwrap_or(255),
-        Err(HexError::Long) => 255,
-        Err(_) => return Err(Complaint::Digits),
-    };
+    let len = count_of(parse_hex(digits, out, at + 1, room))?;
     set(out, at, 0, len);
     Ok(())
 }
 
-// The image of the connection ID that some digits say.
-pub fn cid_image_of(digits: &[u8]) -> Result<[u8; CID_SIZE], Complaint> {
-    let mut out = [0u8; CID_SIZE];
-    put_counted(digits, &mut out, 0, ConnectionId::MAX_SIZE)?;
-    Ok(out)
+// The image of the connection ID that a word says.
+#[tactic(auto, using(crate::proofs::Words::said, crate::proofs::Words::not_said), unfolding(crate::specs::Ids::cid_said))]
+pub fn cid_image_of(digits: &[u8]) -> Result<[u8; CID_SIZE], Complaint>
+    ensures { result ≡ cid_said digits.now }
+{
+    let mut image = [0u8; CID_SIZE];
+    if digits == b"(empty)".as_slice() {
+        return Ok(image);
+    }
+    match count_of(parse_hex(digits, &mut image, 1, ConnectionId::MAX_SIZE)) {
+        Ok(n) => {
+            image[0] = n;
+            Ok(image)
+        }
+        Err(complaint) => Err(complaint),
+    }
 }
 
 // An identifier, and a payload behind its length.
