@@ -4,8 +4,8 @@
  * number of a refusal. A call that is refused changes no byte behind its pointers. yuthpram_order_fault alone refuses nothing: 6 is its answer,
  * and comes with a position.
  *
- * A pointer and its length name a slice, and the pointer may be null if the length is 0. A pointer to a single number is never null. Inputs
- * and outputs of one call do not overlap.
+ * A pointer and its length name a slice, and the pointer may be null if the length is 0. A pointer to a single number or struct is never null.
+ * Inputs and outputs of one call do not overlap.
  */
 #ifndef YUTHPRAM_H
 #define YUTHPRAM_H
@@ -117,8 +117,8 @@ enum {
 /* How many bytes the shortest form of a number has. Refuses 4. */
 uint8_t yuthpram_number_size(uint64_t value, size_t *count);
 
-/* The number at the front of src and its byte count. Refuses 3. */
-uint8_t yuthpram_number_read(const uint8_t *src, size_t src_len, uint64_t *value, size_t *count);
+/* The number at the front of src, its byte count, and how many of these bytes its shortest form would have saved. Refuses 3. */
+uint8_t yuthpram_number_read(const uint8_t *src, size_t src_len, uint64_t *value, size_t *count, size_t *saved);
 
 /* Writes a number in its shortest form. Refuses 4, then 5. */
 uint8_t yuthpram_number_write(uint64_t value, uint8_t *out, size_t out_len, size_t *count);
@@ -160,6 +160,19 @@ uint8_t yuthpram_length(const uint8_t *record, size_t record_len, size_t *count)
 
 /* Reads an extension for the side that reads, and writes it in its one shortest form. Refuses as yuthpram_read does, then 5. */
 uint8_t yuthpram_tidy(uint8_t side, const uint8_t *src, size_t src_len, uint8_t *out, size_t out_len, size_t *count);
+
+/* Where the bytes of an extension go. The first four are bytes, and together they make its length. */
+typedef struct {
+    size_t tidied; /* the tidied length: what yuthpram_tidy stores */
+    size_t skipped; /* whole parameters that are unknown */
+    size_t restated; /* whole parameters of catalogue places 0 to 10 that restate a default, in whatever form */
+    size_t saved; /* what shortest forms would have saved in the identifiers, lengths and numbers of the others */
+    size_t named; /* how many different known parameters there are, with those that restate a default */
+} yuthpram_counts;
+
+/* Reports where the bytes of an extension go, for the side that reads. Refuses 10, 12, 2 or 11, as yuthpram_read does. What is accepted has the
+ * same counts in every order of its whole parameters. */
+uint8_t yuthpram_report(uint8_t side, const uint8_t *src, size_t src_len, yuthpram_counts *counts);
 
 /* Builds a record to send, of YUTHPRAM_SETTINGS settings, the image of initial_src_cid, the draw for the reserved identifier, the
  * reserved payload (at most 15 bytes) and the order. Refuses 7 if settings_len is another, 4, 7 for the ID, 9, 6, then 5 if record_len

@@ -1,7 +1,7 @@
 //! A case is one call, all in bytes and numbers; an answer is what came back. Both programs take the same cases.
 
 /// The operations. Those from `Check` on have no counterpart in the Rust, but for `Authenticate`: all but `CheckOrder` and `OrderFault` are held to what its
-/// operations give.
+/// operations give, and `Report` to what document 02 makes of it.
 #[derive(Clone, Copy, PartialEq, Eq, Debug)]
 #[repr(u8)]
 pub enum Op {
@@ -30,6 +30,8 @@ pub enum Op {
     OrderFault,
     /// takes a side, a record and the IDs that packets carried; quinn has one error, document 02 says which of 13 and 14 it is
     Authenticate,
+    /// the Rust reads, then writes, which gives the tidied length; of the other bytes document 02 says what they are; takes a side and an extension
+    Report,
     /// the Rust reads an extension that it accepts, the library the same whole parameters in another order
     Rearranged,
     /// the same, but tidied
@@ -37,7 +39,7 @@ pub enum Op {
 }
 
 impl Op {
-    pub const ALL: [(Op, &'static str); 20] = [
+    pub const ALL: [(Op, &'static str); 21] = [
         (Op::NumberSize, "number_size"),
         (Op::NumberRead, "number_read"),
         (Op::NumberWrite, "number_write"),
@@ -56,6 +58,7 @@ impl Op {
         (Op::Length, "length"),
         (Op::OrderFault, "order_fault"),
         (Op::Authenticate, "authentication"),
+        (Op::Report, "report"),
         (Op::Rearranged, "rearranged"),
         (Op::TidyRearranged, "tidy rearranged"),
     ];
@@ -68,7 +71,7 @@ impl Op {
 /// | number_size, number_write | the value | | | | |
 /// | number_read, cid_read | | the input | | | |
 /// | cid_write | | an ID's image | | | |
-/// | read, tidy | side | the extension | | | |
+/// | read, tidy, report | side | the extension | | | |
 /// | rearranged, tidy rearranged | side | the extension | the same in another order | | |
 /// | check | side | a record's image | | | |
 /// | write, issue_limit, length | | a record's image | | | |
@@ -113,9 +116,14 @@ impl<'a> Case<'a> {
 /// The longest output that a case may ask for.
 pub const MOST: usize = 512;
 
+/// How many bytes number_read stores, two numbers, and report, five.
+pub const NUMBER: usize = 2 * 8;
+pub const COUNTS: usize = 5 * 8;
+
 /// What a call gave: the refusal or 0, a number (a count, a limit, a size; 0 if refused or none), and the bytes stored.
 ///
-/// number_read stores its value as eight bytes, high byte first. order_fault has its number, the position, with code 6, and none with 0.
+/// number_read stores its value and the bytes that its shortest form would have saved, report its five counts, each as eight bytes, high byte first.
+/// order_fault has its number, the position, with code 6, and none with 0.
 pub struct Answer {
     pub code: u8,
     pub number: u64,

@@ -61,8 +61,9 @@ fn show(c: &Case, want: &Answer, got: &library::Called) {
 /// A difference planted on the library's side: in `read`, as if 20, the largest ack_delay_exponent, were 19; of a rearranged extension, as if the
 /// parameter at its front had to stay there; in `order_fault`, as if the earlier copy of a repeated entry were at fault; in resumption, as if an
 /// absent datagram size counted below 0; in authentication, as if a server looked at original_dst_cid; in tidying twice, as if 11 and 12 were
-/// exchanged; in each other operation, one bit of one answer, that of the 100th call that was accepted (the first of `default`, which has few). In
-/// `write` it is a bit of the byte before the output, in `tidy` of the byte behind it.
+/// exchanged; in `report`, as if a restated default were counted among the bytes saved; in each other operation, one bit of one answer, that of the 100th
+/// call that was accepted (the first of `default`, which has few). In `number_read` it is a bit of the bytes saved, in `write` of the byte before the
+/// output, in `tidy` of the byte behind it.
 fn plant(c: &Case, nth: u64, got: &mut library::Called) {
     let now = nth == if c.op == Op::Default { 1 } else { 100 };
     match c.op {
@@ -78,9 +79,15 @@ fn plant(c: &Case, nth: u64, got: &mut library::Called) {
         Op::Resume => {}
         Op::Authenticate if c.number & 255 != 0 && c.x[109..130] != *c.z => *got = library::refused(14),
         Op::Authenticate => {}
+        Op::Report => {
+            let [restated, saved] = [2, 3].map(|k| u64::from_be_bytes(*got.eight(k)));
+            *got.eight(2) = [0; 8];
+            *got.eight(3) = (restated + saved).to_be_bytes();
+        }
         _ if !now => {}
         Op::NumberSize | Op::Issue | Op::Length => got.number ^= 1,
         Op::Check | Op::CheckOrder => got.code ^= 1,
+        Op::NumberRead => got.flip(15),
         Op::Write => got.flip(-1),
         Op::Tidy => got.flip(c.room as isize),
         _ => got.flip(0),
@@ -88,7 +95,7 @@ fn plant(c: &Case, nth: u64, got: &mut library::Called) {
 }
 
 /// The parts of the documented run.
-const PARTS: [(&str, fn(&mut Suite)); 29] = [
+const PARTS: [(&str, fn(&mut Suite)); 30] = [
     ("default", |s| s.default()),
     ("shown", |s| s.shown()),
     ("real", |s| s.real(1, 500_000)),
@@ -118,6 +125,7 @@ const PARTS: [(&str, fn(&mut Suite)); 29] = [
     ("kinds", |s| s.kinds(3)),
     ("alike", |s| s.alike()),
     ("authentication", |s| s.authentication(200_000)),
+    ("long_forms", |s| s.long_forms()),
 ];
 
 /// The refusals that quinn does not tell apart: its Malformed, and its one error for connection IDs.

@@ -1,10 +1,11 @@
 //! The answer that is due to a case: quinn's; where quinn has none, or parts from the product, the one that document 01 or 02 gives. Of an extension that
-//! quinn calls Malformed the kind is due, and of connection IDs that it refuses whether one is absent.
+//! quinn calls Malformed the kind is due, and of connection IDs that it refuses whether one is absent; of what it reads also where the bytes go.
 
 use crate::{
     VarInt,
     answer::{Answer, Case, Op},
     coding::BufExt,
+    counts,
     image::{self, CATALOGUE_ORDER},
     kinds, rust,
     transport_parameters::TransportParameters,
@@ -42,7 +43,7 @@ pub fn by(c: &Case) -> By {
     match c.op {
         _ if c.declined != 0 => By::Documents,
         Op::CheckOrder | Op::OrderFault => By::Documents,
-        Op::Read | Op::Tidy | Op::TidyTwice => second_copy(c.x).map_or(By::Quinn, By::Request02),
+        Op::Read | Op::Tidy | Op::TidyTwice | Op::Report => second_copy(c.x).map_or(By::Quinn, By::Request02),
         Op::Resume if size(c.x).is_none() && size(c.y) == Some(VarInt(0)) => By::Request05,
         _ => By::Quinn,
     }
@@ -116,7 +117,7 @@ pub fn by_request_05(c: &Case) -> Answer {
 /// Request 06: what quinn calls Malformed is one of three kinds, and nothing else is.
 fn in_kinds(c: &Case, a: Answer) -> Answer {
     let kind = match c.op {
-        Op::Read | Op::Tidy | Op::TidyTwice | Op::Rearranged | Op::TidyRearranged => kinds::kind(c.x),
+        Op::Read | Op::Tidy | Op::TidyTwice | Op::Report | Op::Rearranged | Op::TidyRearranged => kinds::kind(c.x),
         _ => return a,
     };
     assert_eq!(kind.is_some(), a.code == 1, "10, 11 or 12 is due exactly where quinn says Malformed: {:02x?}", c.x);
@@ -137,6 +138,24 @@ fn in_stages(c: &Case, a: Answer) -> Answer {
     if is_absent { Answer::refused(13) } else { a }
 }
 
+/// Request 08: behind a number that quinn reads stands how many bytes its shortest form would have saved. Of an extension that it accepts all five counts
+/// are due, the first being how many bytes it writes; the four that are bytes make the length.
+fn in_counts(c: &Case, a: Answer) -> Answer {
+    match c.op {
+        _ if a.code != 0 => a,
+        Op::NumberRead => {
+            let saved = counts::saved(c.x).expect("quinn reads it");
+            Answer::stored(a.number, &[a.due(), &saved.to_be_bytes()].concat())
+        }
+        Op::Report => {
+            let [skipped, restated, saved, named] = counts::of(c.x);
+            assert_eq!(a.number + skipped + restated + saved, c.x.len() as u64, "together they make the length: {:02x?}", c.x);
+            Answer::stored(0, &[a.number, skipped, restated, saved, named].map(u64::to_be_bytes).concat())
+        }
+        _ => a,
+    }
+}
+
 /// 5 if the output is shorter than the bytes due.
 fn in_room(c: &Case, a: Answer) -> Answer {
     if c.room < a.len { Answer::refused(5) } else { a }
@@ -149,7 +168,7 @@ pub fn answer_by(by: By, c: &Case) -> Answer {
         By::Request02(start) => by_request_02(c, start),
         By::Request05 => by_request_05(c),
     };
-    in_room(c, in_stages(c, in_kinds(c, a)))
+    in_room(c, in_counts(c, in_stages(c, in_kinds(c, a))))
 }
 
 /// Whether quinn itself gives another answer than the one due, to a reading or a resumption. All three kinds count as its Malformed.

@@ -1,10 +1,12 @@
 //! The library's answers, through its C interface (bindings/c/yuthpram.h).
 
+use std::ops::Range;
+
 use crate::answer::{Answer, Case, MOST, Op};
 
 unsafe extern "C" {
     fn yuthpram_number_size(value: u64, count: *mut usize) -> u8;
-    fn yuthpram_number_read(src: *const u8, src_len: usize, value: *mut u64, count: *mut usize) -> u8;
+    fn yuthpram_number_read(src: *const u8, src_len: usize, value: *mut u64, count: *mut usize, saved: *mut usize) -> u8;
     fn yuthpram_number_write(value: u64, out: *mut u8, out_len: usize, count: *mut usize) -> u8;
     fn yuthpram_cid_read(src: *const u8, src_len: usize, cid: *mut u8, cid_len: usize, count: *mut usize) -> u8;
     fn yuthpram_cid_write(cid: *const u8, cid_len: usize, out: *mut u8, out_len: usize, count: *mut usize) -> u8;
@@ -43,6 +45,8 @@ unsafe extern "C" {
         retry_src_cid: *const u8,
         retry_src_cid_len: usize,
     ) -> u8;
+    // the five of the struct, in its order
+    fn yuthpram_report(side: u8, src: *const u8, src_len: usize, counts: *mut [usize; 5]) -> u8;
 }
 
 /// How many bytes the shortest form of a number has.
@@ -68,9 +72,13 @@ const fn fill() -> [u8; ALL] {
     bytes
 }
 
-/// Where a value and a count stand among the numbers: others are before, between and behind them.
+/// Where a value, a count, the bytes saved and the five counts of a report stand among the numbers: others are before, between and behind them.
 const VALUE: usize = 1;
 const COUNT: usize = 3;
+const SAVED: usize = 5;
+const COUNTS: Range<usize> = 7..12;
+const NUMBERS: usize = 13;
+const OTHERS: [usize; 5] = [0, 2, 4, 6, 12];
 
 /// The answer, and every byte around as the call left it.
 pub struct Called {
@@ -100,6 +108,12 @@ impl Called {
         &self.bytes[MARGIN..MARGIN + MOST]
     }
 
+    /// The `k`th number of eight bytes in the output.
+    pub fn eight(&mut self, k: usize) -> &mut [u8; 8] {
+        let at = MARGIN + 8 * k;
+        (&mut self.bytes[at..at + 8]).try_into().unwrap()
+    }
+
     /// Flips a bit of the byte at a place that counts from the output's start.
     pub fn flip(&mut self, at: isize) {
         self.bytes[MARGIN.wrapping_add_signed(at)] ^= 1;
@@ -115,16 +129,16 @@ impl Called {
 
 /// The number of an answer; one that no answer has if a number changed that shouldn't. A refused call gives none; of order_fault 0 gives none, and 6
 /// comes with the position.
-fn number(op: Op, code: u8, numbers: [u64; 5]) -> u64 {
-    let untouched = |at: usize| numbers[at] == UNTOUCHED;
+fn number(op: Op, code: u8, numbers: [u64; NUMBERS]) -> u64 {
     let is_given = (code == 0) != (op == Op::OrderFault);
-    if !(untouched(0) && untouched(2) && untouched(4)) || !is_given && !(untouched(VALUE) && untouched(COUNT)) {
+    let mut changed = (0..NUMBERS).filter(|at| numbers[*at] != UNTOUCHED);
+    if changed.any(|at| !is_given || OTHERS.contains(&at)) {
         return u64::MAX;
     }
     match op {
         _ if !is_given => 0,
         Op::Issue => numbers[VALUE],
-        Op::Default | Op::Read | Op::New | Op::Resume | Op::Check | Op::CheckOrder | Op::Authenticate => 0,
+        Op::Default | Op::Read | Op::New | Op::Resume | Op::Check | Op::CheckOrder | Op::Authenticate | Op::Report => 0,
         _ => numbers[COUNT],
     }
 }
@@ -146,7 +160,7 @@ pub fn call(c: &Case) -> Called {
     if let Some(other) = c.other_order() {
         return call(&other);
     }
-    let (mut bytes, mut numbers) = (FILL, [UNTOUCHED; 5]);
+    let (mut bytes, mut numbers) = (FILL, [UNTOUCHED; NUMBERS]);
     let settings: Vec<u64> = if c.op == Op::New { eights(c.x) } else { Vec::new() };
     let side = c.number as u8;
     let (x, n, y, z, w) = (c.x.as_ptr(), c.x.len(), c.y, c.z, c.w);
@@ -157,7 +171,7 @@ pub fn call(c: &Case) -> Called {
         let (out, value, count) = (bytes.as_mut_ptr().add(MARGIN), given.add(VALUE), given.add(COUNT).cast());
         match c.op {
             Op::NumberSize => number_size(c.number, count),
-            Op::NumberRead => yuthpram_number_read(x, n, value, count),
+            Op::NumberRead => yuthpram_number_read(x, n, value, count, given.add(SAVED).cast()),
             Op::NumberWrite => yuthpram_number_write(c.number, out, room, count),
             Op::CidRead => yuthpram_cid_read(x, n, out, room, count),
             Op::CidWrite => yuthpram_cid_write(x, n, out, room, count),
@@ -188,14 +202,22 @@ pub fn call(c: &Case) -> Called {
                 let retry_seen = (c.number >> 8) as u8;
                 yuthpram_authenticate_cids(side, x, n, y.as_ptr(), y.len(), z.as_ptr(), z.len(), retry_seen, w.as_ptr(), w.len())
             }
+            Op::Report => yuthpram_report(side, x, n, given.add(COUNTS.start).cast()),
             Op::Rearranged | Op::TidyRearranged => unreachable!("the other order was called for"),
         }
     };
-    // The value of number_read goes where bytes go.
-    if c.op == Op::NumberRead && code == 0 {
-        bytes[MARGIN..MARGIN + 8].copy_from_slice(&numbers[VALUE].to_be_bytes());
+    let mut called = Called { code, number: number(c.op, code, numbers), bytes };
+    // What number_read and report store, but for the count, goes where bytes go.
+    let stored = match c.op {
+        _ if code != 0 => &[][..],
+        Op::NumberRead => &[numbers[VALUE], numbers[SAVED]],
+        Op::Report => &numbers[COUNTS],
+        _ => &[],
+    };
+    for (k, x) in stored.iter().enumerate() {
+        *called.eight(k) = x.to_be_bytes();
     }
-    Called { code, number: number(c.op, code, numbers), bytes }
+    called
 }
 
 /// Numbers of eight bytes each.

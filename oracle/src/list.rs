@@ -6,7 +6,7 @@
 //! | at | head |
 //! |---|---|
 //! | 0 | operation, by its place in `Op` |
-//! | 1 | refusal due, or 0; 10, 11 and 12 of reading and tidying are quinn's Malformed, told apart by request 06; 13 and 14 its one refusal of connection IDs, by 07 |
+//! | 1 | refusal due, or 0; 10, 11 and 12 of reading, tidying and reports are quinn's Malformed, told apart by request 06; 13 and 14 its one refusal of connection IDs, by 07 |
 //! | 2, 4, 6, 8, 10 | where x, y, z, w and the bytes due end, counted from the head's end |
 //! | 12 | length of the output |
 //! | 14 | the request of document 02 that gives the answer, quinn not being asked; else 0 |
@@ -14,12 +14,16 @@
 //! | 16 | number of the case (eight bytes) |
 //! | 24 | number due (eight bytes) |
 //!
-//! What the fields are for each operation is said at `Case` and `Answer`.
+//! What the fields are for each operation is said at `Case` and `Answer`. Of what number_read and report store, the value and the tidied length are
+//! quinn's, the rest is request 08's.
 
-use std::io::{Read, Write, stdin, stdout};
+use std::{
+    collections::HashSet,
+    io::{Read, Write, stdin, stdout},
+};
 
 use crate::{
-    answer::{Answer, Case, MOST, Op},
+    answer::{Answer, COUNTS, Case, MOST, NUMBER, Op},
     compare::SEED,
     due, image,
     inputs::{self, Dice, EDGES, KNOWN, MAX},
@@ -39,8 +43,8 @@ impl Suite<'_> {
                 for form in [0, 3] {
                     let mut bytes = Vec::new();
                     inputs::put_number(&mut bytes, x, form);
-                    self.case(Op::NumberRead, 0, &bytes, 8);
-                    self.case(Op::NumberRead, 0, &bytes[..bytes.len() - 1], 8);
+                    self.case(Op::NumberRead, 0, &bytes, NUMBER);
+                    self.case(Op::NumberRead, 0, &bytes[..bytes.len() - 1], NUMBER);
                 }
             }
         }
@@ -180,7 +184,7 @@ fn recorded<'a>(c: &Case<'a>) -> Case<'a> {
 
 pub fn record() {
     // every `step`th case of each part
-    let parts: [(usize, fn(&mut Suite)); 28] = [
+    let parts: [(usize, fn(&mut Suite)); 30] = [
         (1, |s| s.default()),
         (1, |s| s.shown()),
         (1, |s| s.real(61, 40)),
@@ -209,18 +213,32 @@ pub fn record() {
         (11, |s| s.kinds(2)),
         (997, |s| s.alike()),
         (1, |s| s.authentication(40)),
+        (211, |s| s.forms(&[0, 2, 3, 25, 65527])),
+        (7, |s| s.long_forms()),
     ];
     let (mut entries, mut bytes) = (0, 0);
     let mut requested = due::REQUESTS.map(|(request, _)| (request, 0));
+    let mut reported = HashSet::new();
     for (step, part) in parts {
         let mut turn = 0;
+        let mut put = |c: &Case| {
+            let e = entry(c);
+            stdout().write_all(&e).unwrap();
+            entries += 1;
+            bytes += e.len();
+            requested.iter_mut().for_each(|(request, n)| *n += (e[14] == *request) as usize);
+        };
         let mut sink = |c: &Case| {
+            // what is tidied is reported once, and nothing else
+            if c.op == Op::Report {
+                return false;
+            }
             if turn % step == 0 {
-                let e = entry(&recorded(c));
-                stdout().write_all(&e).unwrap();
-                entries += 1;
-                bytes += e.len();
-                requested.iter_mut().for_each(|(request, n)| *n += (e[14] == *request) as usize);
+                let c = recorded(c);
+                put(&c);
+                if c.op == Op::Tidy && reported.insert((c.number, c.x.to_vec())) {
+                    put(&Case::new(Op::Report, c.number, c.x, COUNTS));
+                }
             }
             turn += 1;
             false

@@ -4,6 +4,7 @@
 
 mod answer;
 mod compare;
+mod counts;
 mod due;
 mod image;
 mod inputs;

@@ -112,6 +112,7 @@ pub fn answer(c: &Case) -> Answer {
             Ok(p) => stored(|out| p.write(out)),
             Err(e) => refusal(e),
         },
+        Op::Report => Answer { len: 0, ..answer(&Case { op: Op::Tidy, ..*c }) },
         Op::CheckOrder | Op::OrderFault => unreachable!("quinn has no such test"),
         Op::Authenticate => {
             let (side, seen) = seen(c);

@@ -2,7 +2,7 @@
 
 use crate::{
     VarInt,
-    answer::{Case, MOST, Op},
+    answer::{COUNTS, Case, MOST, NUMBER, Op},
     due,
     image::{self, RECORD},
     inputs::{self, Dice, EDGES, KNOWN, MAX, NUMBERS},
@@ -45,7 +45,7 @@ impl Suite<'_> {
     /// Every byte string of up to `most` bytes, read as a number.
     pub fn numbers_short(&mut self, most: usize) {
         every(most, |x| {
-            self.case(Op::NumberRead, 0, x, 8);
+            self.case(Op::NumberRead, 0, x, NUMBER);
         });
     }
 
@@ -63,10 +63,10 @@ impl Suite<'_> {
                     let mut bytes = Vec::new();
                     inputs::put_number(&mut bytes, x, form);
                     for cut in 0..=bytes.len() {
-                        self.case(Op::NumberRead, 0, &bytes[..cut], 8);
+                        self.case(Op::NumberRead, 0, &bytes[..cut], NUMBER);
                     }
                     bytes.extend(self.d.bytes::<3>());
-                    self.case(Op::NumberRead, 0, &bytes, 8);
+                    self.case(Op::NumberRead, 0, &bytes, NUMBER);
                 }
             }
         }
@@ -108,7 +108,7 @@ impl Suite<'_> {
 
     // Extensions
 
-    /// Read and tidied, by both sides, with enough room or not.
+    /// Read, tidied and reported, by both sides, with enough room or not.
     pub fn extension(&mut self, x: &[u8]) {
         for side in [0, 1] {
             self.extension_by(side, x);
@@ -122,6 +122,7 @@ impl Suite<'_> {
         }
         let room = if self.d.one_in(4) { self.d.below(x.len().min(400) + 1) } else { MOST };
         self.case(Op::Tidy, side, x, room);
+        self.case(Op::Report, side, x, COUNTS);
         if self.d.one_in(8) {
             self.case(Op::TidyTwice, side, x, MOST);
         }
@@ -135,11 +136,12 @@ impl Suite<'_> {
                     self.rearranged(side, x);
                 }
                 self.case(Op::Tidy, side, x, MOST);
+                self.case(Op::Report, side, x, COUNTS);
             }
         });
     }
 
-    /// An extension that a side accepts, with up to two unknown parameters behind it: all its whole parameters in another order.
+    /// An extension that a side accepts, with up to two unknown parameters behind it: all its whole parameters in another order, which is reported too.
     fn rearranged(&mut self, side: u64, x: &[u8]) {
         let d = &mut self.shuffles;
         let mut x = x.to_vec();
@@ -154,6 +156,7 @@ impl Suite<'_> {
         if y != x {
             (self.sink)(&Case { y: &y, ..Case::new(Op::Rearranged, side, &x, RECORD) });
             (self.sink)(&Case { y: &y, ..Case::new(Op::TidyRearranged, side, &x, MOST) });
+            self.case(Op::Report, side, &y, COUNTS);
         }
     }
 
@@ -223,6 +226,33 @@ impl Suite<'_> {
                     x.extend(value);
                     self.extension(&x);
                 }
+            }
+        }
+    }
+
+    /// Every form of identifier and length of each known parameter that holds no number, and of unknown ones; the value looks like a number in a longer
+    /// form. Each alone, and before two numbers in forms that are drawn, a default and another.
+    pub fn long_forms(&mut self) {
+        let address = [&[1; 24][..], &[3, 0x40, 5, 0x40], &[5; 16]].concat();
+        for id in KNOWN[NUMBERS..].iter().chain(&[0x1b, 0x3a, 0x3f, 0x2ab3, MAX]) {
+            let v = match id {
+                0x02 => &[0x40; 16][..],
+                0x0c | 0x2ab2 => &[],
+                0x0d => &address,
+                _ => &[0x80, 0, 0, 5],
+            };
+            for forms in 0..16 {
+                let mut x = Vec::new();
+                inputs::put_number(&mut x, *id, forms / 4);
+                inputs::put_number(&mut x, v.len() as u64, forms % 4);
+                x.extend(v);
+                self.extension(&x);
+                for (id, number) in [(0x0e, 2), (0x04, 7)] {
+                    let mut value = Vec::new();
+                    inputs::put_number(&mut value, number, self.d.below(4));
+                    inputs::put_parameter(&mut self.d, &mut x, id, &value);
+                }
+                self.extension(&x);
             }
         }
     }

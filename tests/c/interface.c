@@ -12,7 +12,8 @@
 // Every output that a call is lent, filled with a pattern before it.
 static uint8_t out[400];
 static uint64_t value;
-static size_t count;
+static size_t count, saved;
+static yuthpram_counts counts;
 static int passed, failed;
 
 static void reset(void)
@@ -20,6 +21,13 @@ static void reset(void)
     memset(out, 0xa5, sizeof out);
     value = 0x1122334455667788;
     count = 0x99;
+    saved = 0x55;
+    counts = (yuthpram_counts){ 0x11, 0x22, 0x33, 0x44, 0x66 };
+}
+
+static int same_counts(yuthpram_counts a, yuthpram_counts b)
+{
+    return a.tidied == b.tidied && a.skipped == b.skipped && a.restated == b.restated && a.saved == b.saved && a.named == b.named;
 }
 
 // Whether the output from a place on is as it was.
@@ -33,7 +41,8 @@ static int kept(size_t from)
 
 static int untouched(void)
 {
-    return kept(0) && value == 0x1122334455667788 && count == 0x99;
+    static const yuthpram_counts before = { 0x11, 0x22, 0x33, 0x44, 0x66 };
+    return kept(0) && value == 0x1122334455667788 && count == 0x99 && saved == 0x55 && same_counts(counts, before);
 }
 
 static void expect(int ok, int line, const char *what)
@@ -65,18 +74,19 @@ static uint64_t get(const uint8_t *image, size_t at)
     return x;
 }
 
+static const uint64_t values[] = { 0, 63, 64, 16383, 16384, 1073741823, 1073741824, BOUND - 1 };
+static const uint8_t sizes[] = { 1, 1, 2, 2, 4, 4, 8, 8 };
+
 static void numbers(void)
 {
-    static const uint64_t values[] = { 0, 63, 64, 16383, 16384, 1073741823, 1073741824, BOUND - 1 };
-    static const uint8_t sizes[] = { 1, 1, 2, 2, 4, 4, 8, 8 };
     for (size_t i = 0; i < 8; i++) {
         uint64_t back = 0;
-        size_t read = 0;
+        size_t read = 0, more = 1;
         ACCEPTS(yuthpram_number_size(values[i], &count));
         CHECK(count == sizes[i]);
         ACCEPTS(yuthpram_number_write(values[i], out, sizes[i], &count));
         CHECK(count == sizes[i] && kept(count));
-        CHECK(yuthpram_number_read(out, sizes[i], &back, &read) == 0 && back == values[i] && read == count);
+        CHECK(yuthpram_number_read(out, sizes[i], &back, &read, &more) == 0 && back == values[i] && read == count && more == 0);
         REFUSES(5, yuthpram_number_write(values[i], out, sizes[i] - 1u, &count));
     }
     REFUSES(YUTHPRAM_VARINT_BOUNDS_EXCEEDED, yuthpram_number_size(BOUND, &count));
@@ -85,10 +95,40 @@ static void numbers(void)
     REFUSES(4, yuthpram_number_write(UINT64_MAX, out, 0, &count));
 
     static const uint8_t hundred[] = { 0x80, 0, 0, 100, 7 };
-    ACCEPTS(yuthpram_number_read(hundred, 5, &value, &count));
-    CHECK(value == 100 && count == 4);
-    REFUSES(3, yuthpram_number_read(hundred, 3, &value, &count));
-    REFUSES(3, yuthpram_number_read(hundred, 0, &value, &count));
+    ACCEPTS(yuthpram_number_read(hundred, 5, &value, &count, &saved));
+    CHECK(value == 100 && count == 4 && saved == 2);
+    REFUSES(3, yuthpram_number_read(hundred, 3, &value, &count, &saved));
+    REFUSES(3, yuthpram_number_read(hundred, 0, &value, &count, &saved));
+}
+
+// How many bytes the shortest form of a number has.
+static size_t least(uint64_t x)
+{
+    return x < 1 << 6 ? 1 : x < 1 << 14 ? 2 : x < 1 << 30 ? 4 : 8;
+}
+
+// A number in a form of 1, 2, 4 or 8 bytes.
+static void put_number(uint8_t *at, uint64_t x, size_t size)
+{
+    for (size_t i = size; i > 0; i--, x >>= 8)
+        at[i - 1] = (uint8_t)x;
+    at[0] |= (uint8_t)(size == 1 ? 0 : size == 2 ? 0x40 : size == 4 ? 0x80 : 0xc0);
+}
+
+// Each number in each form that holds it, cut at each length: how many bytes the shortest form would have saved.
+static void number_forms(void)
+{
+    for (size_t i = 0; i < 8; i++)
+        for (size_t size = sizes[i]; size <= 8; size *= 2) {
+            uint8_t src[9] = { 0 };
+            put_number(src, values[i], size);
+            for (size_t len = 0; len < size; len++)
+                REFUSES(YUTHPRAM_UNEXPECTED_END, yuthpram_number_read(src, len, &value, &count, &saved));
+            for (size_t len = size; len <= sizeof src; len++) {
+                ACCEPTS(yuthpram_number_read(src, len, &value, &count, &saved));
+                CHECK(value == values[i] && count == size && saved == size - sizes[i] && kept(0));
+            }
+        }
 }
 
 static void connection_ids(void)
@@ -245,20 +285,23 @@ static void second_copies(void)
             size_t end = n + parameter(src + n, sample[i].id, id_len, 0, len);
             REFUSES(12, yuthpram_read(YUTHPRAM_CLIENT, src, end, out, RECORD));
             REFUSES(12, yuthpram_tidy(YUTHPRAM_CLIENT, src, end, out, sizeof out, &count));
+            REFUSES(12, yuthpram_report(YUTHPRAM_CLIENT, src, end, &counts));
         }
         size_t end = n + put_sample(src + n, i);
         src[end] = 1;
         REFUSES(12, yuthpram_read(YUTHPRAM_CLIENT, src, end, out, RECORD));
         REFUSES(12, yuthpram_read(YUTHPRAM_CLIENT, src, end + 1, out, RECORD));
         REFUSES(12, yuthpram_tidy(YUTHPRAM_CLIENT, src, end, out, sizeof out, &count));
+        REFUSES(12, yuthpram_report(YUTHPRAM_CLIENT, src, end, &counts));
     }
 }
 
-// What is read and tidied with the same refusal.
+// What is read, tidied and reported with the same refusal.
 static void refused_with(uint8_t refusal, const uint8_t *src, size_t len)
 {
     REFUSES(refusal, yuthpram_read(YUTHPRAM_CLIENT, src, len, out, RECORD));
     REFUSES(refusal, yuthpram_tidy(YUTHPRAM_CLIENT, src, len, out, sizeof out, &count));
+    REFUSES(refusal, yuthpram_report(YUTHPRAM_CLIENT, src, len, &counts));
 }
 
 // Each parameter, by itself and behind one that is accepted: cut off at every byte, the known ones with a value that does not fit, and a second
@@ -295,9 +338,11 @@ static void kinds(void)
     refused_with(YUTHPRAM_ILLEGAL_VALUE, src, parameter(src, &address, 1, 0, 43));
 }
 
-// All of them, from each one on, forwards and backwards: always the same record, and tidied the same bytes.
+// All of them, from each one on, forwards and backwards: always the same record, and tidied the same bytes, with the same report.
 static void any_order(void)
 {
+    // active_connection_id_limit is at its default; the unknown ones are counted whole, the one with its identifier in eight bytes too
+    static const yuthpram_counts due = { 144, 16, 3, 0, KNOWN };
     uint8_t record[RECORD], tidied[sizeof out];
     size_t stored = 0;
     for (size_t order = 0; order < 2 * ALL; order++) {
@@ -313,9 +358,10 @@ static void any_order(void)
         if (order == 0)
             memcpy(tidied, out, stored = count);
         CHECK(count == stored && memcmp(out, tidied, stored) == 0 && kept(stored));
+        ACCEPTS(yuthpram_report(YUTHPRAM_CLIENT, src, len, &counts));
+        CHECK(same_counts(counts, due) && kept(0));
     }
-    // all but the unknown ones, 16 bytes, and active_connection_id_limit at its default, 3
-    CHECK(get(record, 0) == 2 && record[89] == 1 && stored == 144);
+    CHECK(get(record, 0) == 2 && record[89] == 1 && stored == due.tidied);
 }
 
 // A permutation of the places: the last place first.
@@ -481,6 +527,203 @@ static void tidying(void)
     REFUSES(5, yuthpram_tidy(1, src, sizeof src, out, 2, &count));
     REFUSES(10, yuthpram_tidy(1, src, sizeof src - 1, out, sizeof out, &count));
     REFUSES(2, yuthpram_tidy(0, illegal, 3, out, 0, &count));
+}
+
+// What is reported of an extension that is accepted. The first count is what tidying stores, and with the three behind it the length.
+static void reports(uint8_t side, const uint8_t *src, size_t len, yuthpram_counts due, const char *what)
+{
+    size_t tidied = 0;
+    CHECK(yuthpram_tidy(side, src, len, out, sizeof out, &tidied) == 0);
+    reset();
+    int accepted = yuthpram_report(side, src, len, &counts) == 0 && kept(0);
+    expect(accepted && same_counts(counts, due), __LINE__, what);
+    expect(counts.tidied == tidied && counts.tidied + counts.skipped + counts.restated + counts.saved == len, __LINE__, what);
+}
+
+// Tidied, skipped, restated, saved, named: counted by hand.
+static void reporting(void)
+{
+    static const struct { const char *what; yuthpram_counts due; size_t len; uint8_t src[64]; } rows[] = {
+        { "nothing", { 0, 0, 0, 0, 0 }, 0, { 0 } },
+        { "unknown", { 0, 5, 0, 0, 0 }, 5, { 0x1b, 3, 0xaa, 0xbb, 0xcc } },
+        { "unknown, twice", { 0, 4, 0, 0, 0 }, 4, { 0x1b, 0, 0x1b, 0 } },
+        { "unknown, in longer forms", { 0, 14, 0, 0, 0 }, 14, { 0xc0, 0, 0, 0, 0, 0, 0, 0x1b, 0x80, 0, 0, 2, 0x40, 5 } },
+        { "shortest", { 6, 0, 0, 0, 1 }, 6, { 1, 4, 0x80, 0, 0x75, 0x30 } },
+        { "identifier of 2", { 3, 0, 0, 1, 1 }, 4, { 0x40, 1, 1, 5 } },
+        { "identifier of 4", { 3, 0, 0, 3, 1 }, 6, { 0x80, 0, 0, 1, 1, 5 } },
+        { "identifier of 8", { 3, 0, 0, 7, 1 }, 10, { 0xc0, 0, 0, 0, 0, 0, 0, 1, 1, 5 } },
+        { "length of 2", { 3, 0, 0, 1, 1 }, 4, { 1, 0x40, 1, 5 } },
+        { "length of 4", { 3, 0, 0, 3, 1 }, 6, { 1, 0x80, 0, 0, 1, 5 } },
+        { "length of 8", { 3, 0, 0, 7, 1 }, 10, { 1, 0xc0, 0, 0, 0, 0, 0, 0, 1, 5 } },
+        { "number of 2", { 3, 0, 0, 1, 1 }, 4, { 1, 2, 0x40, 5 } },
+        { "number of 4", { 3, 0, 0, 3, 1 }, 6, { 1, 4, 0x80, 0, 0, 5 } },
+        { "number of 8", { 3, 0, 0, 7, 1 }, 10, { 1, 8, 0xc0, 0, 0, 0, 0, 0, 0, 5 } },
+        { "number of 8 for 2", { 4, 0, 0, 6, 1 }, 10, { 1, 8, 0xc0, 0, 0, 0, 0, 0, 0, 64 } },
+        { "all three of 2", { 3, 0, 0, 3, 1 }, 6, { 0x40, 1, 0x40, 2, 0x40, 5 } },
+        { "default", { 0, 0, 3, 0, 1 }, 3, { 0x0e, 1, 2 } },
+        { "default, all three of 2", { 0, 0, 6, 0, 1 }, 6, { 0x40, 0x0e, 0x40, 2, 0x40, 2 } },
+        { "default of 8", { 0, 0, 10, 0, 1 }, 10, { 3, 8, 0xc0, 0, 0, 0, 0, 0, 0xff, 0xf7 } },
+        { "datagram size of 0", { 3, 0, 0, 0, 1 }, 3, { 0x20, 1, 0 } },
+        { "datagram size of 0, all three of 2", { 3, 0, 0, 3, 1 }, 6, { 0x40, 0x20, 0x40, 2, 0x40, 0 } },
+        { "min_ack_delay of 0, in 2", { 10, 0, 0, 1, 1 }, 11, { 0xc0, 0, 0, 0, 0xff, 4, 0xde, 0x1b, 2, 0x40, 0 } },
+        { "flag, both of 4", { 3, 0, 0, 5, 1 }, 8, { 0x80, 0, 0x2a, 0xb2, 0x80, 0, 0, 0 } },
+        { "ID, length of 2", { 5, 0, 0, 1, 1 }, 6, { 0x0f, 0x40, 3, 7, 8, 9 } },
+        { "ID of none, length of 8", { 2, 0, 0, 7, 1 }, 9, { 0x0f, 0xc0 } },
+        { "ID that looks like a number", { 4, 0, 0, 0, 1 }, 4, { 0x0f, 2, 0x40, 5 } },
+        { "one of each", { 3, 3, 3, 1, 2 }, 10, { 1, 2, 0x40, 5, 0x1b, 1, 0, 0x0e, 1, 2 } },
+    };
+    // of a server: an ID, a token and an address with a length in a longer form, and what looks like a number within
+    static const struct { const char *what; yuthpram_counts due; size_t len; uint8_t src[64]; } of_server[] = {
+        { "original_dst_cid, length of 8", { 4, 0, 0, 7, 1 }, 11, { 0, 0xc0, 0, 0, 0, 0, 0, 0, 2, 0x40, 5 } },
+        { "retry_src_cid, identifier of 2", { 2, 0, 0, 1, 1 }, 3, { 0x40, 0x10, 0 } },
+        { "token, identifier of 2, length of 4", { 18, 0, 0, 4, 1 }, 22, { 0x40, 2, 0x80, 0, 0, 16, 0x40, 5 } },
+        { "address, length of 2", { 45, 0, 0, 1, 1 }, 46, { 0x0d, 0x40, 43, 127, 0, 0, 1, 0x40, 5, [27] = 2, 0x40, 5 } },
+    };
+    for (size_t i = 0; i < sizeof rows / sizeof *rows; i++)
+        for (uint8_t side = 0; side < 2; side++)
+            reports(side, rows[i].src, rows[i].len, rows[i].due, rows[i].what);
+    for (size_t i = 0; i < sizeof of_server / sizeof *of_server; i++) {
+        reports(YUTHPRAM_CLIENT, of_server[i].src, of_server[i].len, of_server[i].due, of_server[i].what);
+        REFUSES(2, yuthpram_report(YUTHPRAM_SERVER, of_server[i].src, of_server[i].len, &counts));
+        REFUSES(2, yuthpram_report(255, of_server[i].src, of_server[i].len, &counts));
+    }
+    // behind a number in a longer form: each refusal, and a value that is found behind the last one
+    static const uint8_t cut[] = { 1, 2, 0x40, 5, 4, 2, 1 }, twice[] = { 1, 2, 0x40, 5, 1, 1, 5 }, left[] = { 1, 2, 0x40, 5, 4, 2, 1, 0 };
+    static const uint8_t illegal[] = { 0x40, 10, 1, 21, 0x1b, 0 };
+    REFUSES(YUTHPRAM_CUT, yuthpram_report(YUTHPRAM_CLIENT, cut, sizeof cut, &counts));
+    REFUSES(YUTHPRAM_SECOND_COPY, yuthpram_report(YUTHPRAM_CLIENT, twice, sizeof twice, &counts));
+    REFUSES(YUTHPRAM_MISFIT, yuthpram_report(YUTHPRAM_CLIENT, left, sizeof left, &counts));
+    REFUSES(YUTHPRAM_ILLEGAL_VALUE, yuthpram_report(YUTHPRAM_CLIENT, illegal, sizeof illegal, &counts));
+}
+
+// An extension that is put together, and the counts that are due to it.
+struct mix { uint8_t src[1024]; size_t len; yuthpram_counts due; };
+
+// The forms of a parameter's numbers, in bytes; a number that one does not hold is put in its shortest form.
+struct forms { size_t id, len, value; };
+
+static size_t form_of(uint64_t x, size_t size)
+{
+    return size < least(x) ? least(x) : size;
+}
+
+// A number; gives what its shortest form would save.
+static size_t add(struct mix *m, uint64_t x, size_t size)
+{
+    size = form_of(x, size);
+    put_number(m->src + m->len, x, size);
+    m->len += size;
+    return size - least(x);
+}
+
+// Counts the known parameter from a place on: as a default, or what is saved in it, and the rest.
+static void name(struct mix *m, size_t from, int is_default, size_t more)
+{
+    m->due.named++;
+    if (is_default) {
+        m->due.restated += m->len - from;
+        return;
+    }
+    m->due.saved += more;
+    m->due.tidied += m->len - from - more;
+}
+
+// The known parameters: numbers, of places 0 to 10 first, with the default or 0 and with another value; of the others how long a value is.
+enum { PLAIN = 11, NUMBERS = 13 };
+static const struct { uint64_t id, usual, other; } with_number[NUMBERS] = {
+    { 0x01, 0, 63 },        { 0x03, 65527, 1200 }, { 0x04, 0, 64 },        { 0x05, 0, 16383 },         { 0x06, 0, 16384 },
+    { 0x07, 0, BOUND - 1 }, { 0x08, 0, 1 },        { 0x09, 0, BOUND / 4 }, { 0x0a, 3, 2 },             { 0x0b, 25, 16383 },
+    { 0x0e, 2, 3 },         { 0x20, 0, 1 << 30 },  { 0xff04de1b, 0, 25000 },
+};
+static const struct { uint64_t id; size_t len; int of_server; } with_bytes[KNOWN - NUMBERS] = {
+    { 0x00, 20, 1 }, { 0x02, 16, 1 }, { 0x0c, 0, 0 }, { 0x0d, 42, 1 }, { 0x0f, 8, 0 }, { 0x10, 0, 1 }, { 0x2ab2, 0, 0 },
+};
+
+static void add_number(struct mix *m, size_t i, int is_usual, struct forms f)
+{
+    uint64_t x = is_usual ? with_number[i].usual : with_number[i].other;
+    size_t from = m->len, more = add(m, with_number[i].id, f.id);
+    more += add(m, form_of(x, f.value), f.len);
+    more += add(m, x, f.value);
+    name(m, from, is_usual && i < PLAIN, more);
+}
+
+// Its value is 1 over and over: an address has an ID of one byte.
+static size_t add_bytes(struct mix *m, uint64_t id, size_t len, struct forms f)
+{
+    size_t more = add(m, id, f.id);
+    more += add(m, len, f.len);
+    memset(m->src + m->len, 1, len);
+    m->len += len;
+    return more;
+}
+
+// Each number, at its default and at another value, in each form of identifier, length and value.
+static void number_reports(void)
+{
+    for (size_t i = 0; i < NUMBERS; i++)
+        for (int forms = 0; forms < 128; forms++) {
+            struct mix m = { .len = 0 };
+            struct forms f = { (size_t)1 << forms % 4, (size_t)1 << forms / 4 % 4, (size_t)1 << forms / 16 % 4 };
+            add_number(&m, i, forms < 64, f);
+            reports(YUTHPRAM_SERVER, m.src, m.len, m.due, "a number in some form");
+        }
+}
+
+// Numbers that look random, always the same ones.
+static size_t draw(size_t below)
+{
+    static uint32_t x = 1;
+    x ^= x << 13;
+    x ^= x >> 17;
+    x ^= x << 5;
+    return x % below;
+}
+
+static void add_drawn(struct mix *m, size_t i, int *of_server)
+{
+    static const uint64_t unknown[] = { 0x1b, 0x3a, 0x21, 0x2ab1, 0xff04de1a, BOUND - 1 };
+    struct forms f = { (size_t)1 << draw(4), (size_t)1 << draw(4), (size_t)1 << draw(4) };
+    size_t from = m->len;
+    if (draw(4) == 0) {
+        add_bytes(m, unknown[draw(6)], draw(9), f);
+        m->due.skipped += m->len - from;
+        from = m->len;
+    }
+    if (i < NUMBERS) {
+        add_number(m, i, draw(2) == 0, f);
+        return;
+    }
+    name(m, from, 0, add_bytes(m, with_bytes[i - NUMBERS].id, with_bytes[i - NUMBERS].len, f));
+    *of_server |= with_bytes[i - NUMBERS].of_server;
+}
+
+// Mixes of parameters in any order, each in some form: the counts are those by which it was put together, and what is cut is refused as in reading.
+static void mixed_reports(void)
+{
+    for (int n = 0; n < 500; n++) {
+        struct mix m = { .len = 0 };
+        int of_server = 0, alike = 1;
+        size_t places[KNOWN], most = draw(KNOWN + 1);
+        for (size_t i = 0; i < KNOWN; i++)
+            places[i] = i;
+        for (size_t i = 0; i < most; i++) {
+            size_t j = i + draw(KNOWN - i), place = places[j];
+            places[j] = places[i];
+            add_drawn(&m, place, &of_server);
+        }
+        reports(YUTHPRAM_CLIENT, m.src, m.len, m.due, "a mix");
+        if (of_server)
+            REFUSES(2, yuthpram_report(YUTHPRAM_SERVER, m.src, m.len, &counts));
+        else
+            reports(YUTHPRAM_SERVER, m.src, m.len, m.due, "a mix that a client may send");
+        for (size_t cut = 0; cut < m.len; cut++) {
+            uint8_t refusal = yuthpram_read(YUTHPRAM_CLIENT, m.src, cut, out, RECORD);
+            reset();
+            alike &= yuthpram_report(YUTHPRAM_CLIENT, m.src, cut, &counts) == refusal && (refusal == 0 || untouched());
+        }
+        CHECK(alike);
+    }
 }
 
 static void building(void)
@@ -712,7 +955,7 @@ static void nothing(void)
     uint8_t image[RECORD], order[21];
     default_record(image);
     backwards(order);
-    REFUSES(3, yuthpram_number_read(NULL, 0, &value, &count));
+    REFUSES(3, yuthpram_number_read(NULL, 0, &value, &count, &saved));
     REFUSES(5, yuthpram_number_write(5, NULL, 0, &count));
     REFUSES(4, yuthpram_number_write(BOUND, NULL, 0, &count));
     REFUSES(1, yuthpram_cid_read(NULL, 0, out, CID, &count));
@@ -735,6 +978,8 @@ static void nothing(void)
     ACCEPTS(yuthpram_tidy(YUTHPRAM_CLIENT, NULL, 0, NULL, 0, &count));
     CHECK(count == 0);
     REFUSES(5, yuthpram_tidy(YUTHPRAM_CLIENT, src, 3, NULL, 0, &count));
+    ACCEPTS(yuthpram_report(YUTHPRAM_SERVER, NULL, 0, &counts));
+    CHECK(same_counts(counts, (yuthpram_counts){ 0, 0, 0, 0, 0 }));
     REFUSES(7, yuthpram_new(NULL, 0, cid, CID, 0, NULL, 0, order, 21, out, RECORD));
     REFUSES(7, yuthpram_new(settings, YUTHPRAM_SETTINGS, NULL, 0, 0, NULL, 0, order, 21, out, RECORD));
     ACCEPTS(yuthpram_new(settings, YUTHPRAM_SETTINGS, cid, CID, 0, NULL, 0, order, 21, out, RECORD));
@@ -778,6 +1023,7 @@ int main(void)
 {
     refusals();
     numbers();
+    number_forms();
     connection_ids();
     defaults();
     checking();
@@ -792,6 +1038,9 @@ int main(void)
     number_lengths();
     order_lengths();
     tidying();
+    reporting();
+    number_reports();
+    mixed_reports();
     building();
     not_building();
     resumption();

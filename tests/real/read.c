@@ -68,11 +68,11 @@ static int print_unknown(const uint8_t *bytes, size_t len)
 {
     for (size_t at = 0; at < len;) {
         uint64_t id, size;
-        size_t count;
-        if (yuthpram_number_read(bytes + at, len - at, &id, &count))
+        size_t count, saved;
+        if (yuthpram_number_read(bytes + at, len - at, &id, &count, &saved))
             return 1;
         at += count;
-        if (yuthpram_number_read(bytes + at, len - at, &size, &count) || len - at - count < size)
+        if (yuthpram_number_read(bytes + at, len - at, &size, &count, &saved) || len - at - count < size)
             return 1;
         at += count;
         if (!is_known(id)) {

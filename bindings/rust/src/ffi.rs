@@ -1,11 +1,13 @@
 //! The C interface (`bindings/c/yuthpram.h`), as it is declared there.
+use crate::Counts;
+
 pub const RECORD_SIZE: usize = 303;
 pub const CID_SIZE: usize = 21;
 pub const SETTINGS: usize = 12;
 
 extern "C" {
     fn yuthpram_number_size(value: u64, count: *mut usize) -> u8;
-    pub fn yuthpram_number_read(src: *const u8, src_len: usize, value: *mut u64, count: *mut usize) -> u8;
+    pub fn yuthpram_number_read(src: *const u8, src_len: usize, value: *mut u64, count: *mut usize, saved: *mut usize) -> u8;
     pub fn yuthpram_number_write(value: u64, out: *mut u8, out_len: usize, count: *mut usize) -> u8;
     pub fn yuthpram_cid_read(src: *const u8, src_len: usize, cid: *mut u8, cid_len: usize, count: *mut usize) -> u8;
     pub fn yuthpram_cid_write(cid: *const u8, cid_len: usize, out: *mut u8, out_len: usize, count: *mut usize) -> u8;
@@ -17,6 +19,7 @@ extern "C" {
     pub fn yuthpram_write(record: *const u8, record_len: usize, out: *mut u8, out_len: usize, count: *mut usize) -> u8;
     pub fn yuthpram_length(record: *const u8, record_len: usize, count: *mut usize) -> u8;
     pub fn yuthpram_tidy(side: u8, src: *const u8, src_len: usize, out: *mut u8, out_len: usize, count: *mut usize) -> u8;
+    pub fn yuthpram_report(side: u8, src: *const u8, src_len: usize, counts: *mut Counts) -> u8;
     #[allow(clippy::too_many_arguments)]
     pub fn yuthpram_new(
         settings: *const u64,

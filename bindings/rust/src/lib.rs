@@ -20,7 +20,7 @@ mod image;
 mod types;
 
 pub use error::Error;
-pub use types::{AddressV6, ConnectionId, PreferredAddress, ReservedTransportParameter, ResetToken, SeenConnectionIds, Side, VarInt};
+pub use types::{AddressV6, ConnectionId, Decoded, PreferredAddress, ReservedTransportParameter, ResetToken, SeenConnectionIds, Side, VarInt};
 
 /// What building takes besides a connection ID and drawn values: quinn's configuration, as `TransportParameters::new` uses it.
 /// The defaults are quinn's, of a client.
@@ -429,4 +429,41 @@ pub fn tidy(side: Side, src: &[u8], out: &mut [u8]) -> Result<usize, Error> {
     let mut count = 0;
     Error::of(unsafe { ffi::yuthpram_tidy(side.byte(), src.as_ptr(), src.len(), out.as_mut_ptr(), out.len(), &mut count) })?;
     Ok(count)
+}
+
+/// Where the bytes of an extension go. The first four are bytes, and together they make its length.
+#[derive(Debug, Copy, Clone, Eq, PartialEq)]
+#[repr(C)]
+pub struct Counts {
+    /// The tidied length: what `tidy` stores.
+    pub tidied: usize,
+    /// Whole parameters that are unknown.
+    pub skipped: usize,
+    /// Whole parameters of catalogue places 0 to 10 that restate a default, in whatever form.
+    pub restated: usize,
+    /// What shortest forms would have saved in the identifiers, lengths and numbers of the others.
+    pub saved: usize,
+    /// How many different known parameters there are, with those that restate a default.
+    pub named: usize,
+}
+
+/// Reports where the bytes of an extension go, for a side, the one that **reads** it. Refuses as reading does. What is accepted has the same counts in
+/// every order of its whole parameters.
+///
+/// ```
+/// use yuthpram::{report, tidy, Counts, Side};
+/// // max_idle_timeout 30,000, which four bytes hold, in eight; active_connection_id_limit at its default, 2; an unknown parameter.
+/// let idle = [0x01, 0x08, 0xc0, 0x00, 0x00, 0x00, 0x00, 0x00, 0x75, 0x30];
+/// let (limit, unknown) = ([0x0e, 0x01, 0x02], [0x1b, 0x02, 0xaa, 0xbb]);
+/// let src = [&idle[..], &limit, &unknown].concat();
+/// let counts = report(Side::Client, &src)?;
+/// assert_eq!(counts, Counts { tidied: 6, skipped: 4, restated: 3, saved: 4, named: 2 });
+/// assert_eq!(counts.tidied + counts.skipped + counts.restated + counts.saved, src.len());
+/// assert_eq!(counts.tidied, tidy(Side::Client, &src, &mut [0; 6])?);
+/// # Ok::<(), yuthpram::Error>(())
+/// ```
+pub fn report(side: Side, src: &[u8]) -> Result<Counts, Error> {
+    let mut counts = Counts { tidied: 0, skipped: 0, restated: 0, saved: 0, named: 0 };
+    Error::of(unsafe { ffi::yuthpram_report(side.byte(), src.as_ptr(), src.len(), &mut counts) })?;
+    Ok(counts)
 }

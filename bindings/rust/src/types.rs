@@ -96,17 +96,20 @@ impl VarInt {
         ffi::number_size(self.0)
     }
 
-    /// The number at the front of `src`, and how many bytes it takes.
+    /// The number at the front of `src`, how many bytes it takes, and how many of them its shortest form would have saved.
     ///
     /// ```
-    /// use yuthpram::VarInt;
-    /// assert_eq!(VarInt::decode(&[0x7b, 0xbd, 0xff])?, (VarInt::from_u32(15_293), 2));
+    /// use yuthpram::{Decoded, VarInt};
+    /// assert_eq!(VarInt::decode(&[0x7b, 0xbd, 0xff])?, Decoded { value: VarInt::from_u32(15_293), count: 2, saved: 0 });
+    /// // 37 in its shortest form, and in two bytes
+    /// assert_eq!(VarInt::decode(&[0x25])?, Decoded { value: VarInt::from_u32(37), count: 1, saved: 0 });
+    /// assert_eq!(VarInt::decode(&[0x40, 0x25])?, Decoded { value: VarInt::from_u32(37), count: 2, saved: 1 });
     /// # Ok::<(), yuthpram::Error>(())
     /// ```
-    pub fn decode(src: &[u8]) -> Result<(Self, usize), Error> {
-        let (mut value, mut count) = (0, 0);
-        Error::of(unsafe { ffi::yuthpram_number_read(src.as_ptr(), src.len(), &mut value, &mut count) })?;
-        Ok((Self(value), count))
+    pub fn decode(src: &[u8]) -> Result<Decoded, Error> {
+        let (mut value, mut count, mut saved) = (0, 0, 0);
+        Error::of(unsafe { ffi::yuthpram_number_read(src.as_ptr(), src.len(), &mut value, &mut count, &mut saved) })?;
+        Ok(Decoded { value: Self(value), count, saved })
     }
 
     /// Writes the shortest form to the front of `out`, and gives its length.
@@ -171,6 +174,17 @@ impl fmt::Display for VarInt {
     fn fmt(&self, f: &mut fmt::Formatter<'_>) -> fmt::Result {
         self.0.fmt(f)
     }
+}
+
+/// A number as it was read.
+#[derive(Debug, Copy, Clone, Eq, PartialEq)]
+pub struct Decoded {
+    /// The number.
+    pub value: VarInt,
+    /// How many bytes it takes.
+    pub count: usize,
+    /// How many of these its shortest form would have saved.
+    pub saved: usize,
 }
 
 /// A connection ID of at most 20 bytes. It is shown in hexadecimal.

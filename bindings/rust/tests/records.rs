@@ -68,15 +68,19 @@ fn refusals() {
 /// A message that is cut off is told from a wrong sender.
 #[test]
 fn three_kinds() {
-    let read = |b: &[u8]| TransportParameters::read(Side::Client, b).err();
+    let read = |b: &[u8]| {
+        let refusal = TransportParameters::read(Side::Client, b).err();
+        assert_eq!(report(Side::Client, b).err(), refusal);
+        refusal
+    };
     let mut out = [0; TransportParameters::MAX_SIZE];
     let n = full().write(&mut out).unwrap();
     let mut between = vec![0];
     let mut at = 0;
     while at < n {
-        at += VarInt::decode(&out[at..]).unwrap().1;
-        let (len, size) = VarInt::decode(&out[at..]).unwrap();
-        at += size + len.into_inner() as usize;
+        at += VarInt::decode(&out[at..]).unwrap().count;
+        let len = VarInt::decode(&out[at..]).unwrap();
+        at += len.count + len.value.into_inner() as usize;
         between.push(at);
     }
     for cut in 0..=n {
@@ -86,7 +90,7 @@ fn three_kinds() {
     // each of them a second time, with a value that does not fit; and by itself with it: whatever follows
     for bounds in between.windows(2) {
         let one = &out[bounds[0]..bounds[1]];
-        let id = &one[..VarInt::decode(one).unwrap().1];
+        let id = &one[..VarInt::decode(one).unwrap().count];
         let other = [id, &[63], &[1; 63]].concat();
         for more in [&[][..], &[0x40], &[0x0a, 0x01, 0x15]] {
             assert_eq!(read(&[one, &other, more].concat()), Some(Error::SecondCopy));
@@ -100,6 +104,62 @@ fn three_kinds() {
             _ => None,
         };
         assert_eq!((e.is_malformed(), e.code()), ([1, 10, 11, 12].contains(&e.number()), code));
+    }
+}
+
+/// A number in a form of 1, 2, 4 or 8 bytes.
+fn number(x: u64, form: usize) -> Vec<u8> {
+    let tagged = x | (form as u64) << ((8 << form) - 2);
+    tagged.to_be_bytes()[8 - (1 << form)..].to_vec()
+}
+
+/// Each form that holds a number says how many bytes the shortest would have saved.
+#[test]
+fn longer_forms() {
+    for x in [0, 63, 64, 16383, 16384, (1 << 30) - 1, 1 << 30, (1 << 62) - 1] {
+        let value = VarInt::from_u64(x).unwrap();
+        for form in (0..4).filter(|form| value.size() <= 1 << form) {
+            let mut bytes = number(x, form);
+            assert_eq!(VarInt::decode(&bytes[..bytes.len() - 1]), Err(Error::UnexpectedEnd));
+            bytes.push(0xff);
+            assert_eq!(VarInt::decode(&bytes), Ok(Decoded { value, count: 1 << form, saved: (1 << form) - value.size() }));
+        }
+    }
+}
+
+/// Where the bytes go: of a parameter in each form of identifier, length and number, by itself, and before and behind a full record, in which nothing can
+/// be saved.
+#[test]
+fn counts() {
+    let mut out = [0; TransportParameters::MAX_SIZE];
+    let n = full().write(&mut out).unwrap();
+    let all = Counts { tidied: n, skipped: 0, restated: 0, saved: 0, named: 12 };
+    assert_eq!(report(Side::Client, &out[..n]), Ok(all));
+    assert_eq!(report(Side::Server, &out[..n]), Err(Error::IllegalValue));
+    for (a, b, c) in (0..64).map(|n| (n % 4, n / 4 % 4, n / 16)) {
+        let parameter = |id: u64, x: u64| [number(id, a), number(1 << c, b), number(x, c)].concat();
+        let len = (1 << a) + (1 << b) + (1 << c);
+        let none = Counts { tidied: 0, skipped: 0, restated: 0, saved: 0, named: 0 };
+        // max_ack_delay at its default and at another value; an unknown parameter, of which the value is no number
+        for (src, due) in [
+            (parameter(0x0b, 25), Counts { restated: len, named: 1, ..none }),
+            (parameter(0x0b, 26), Counts { tidied: 3, saved: len - 3, named: 1, ..none }),
+            (parameter(0x1b, 25), Counts { skipped: len, ..none }),
+        ] {
+            assert_eq!(report(Side::Server, &src), Ok(due));
+            assert_eq!(tidy(Side::Server, &src, &mut [0; 3]), Ok(due.tidied));
+            let both = Counts {
+                tidied: all.tidied + due.tidied,
+                skipped: due.skipped,
+                restated: due.restated,
+                saved: due.saved,
+                named: all.named + due.named,
+            };
+            for src in [[&out[..n], &src].concat(), [&src, &out[..n]].concat()] {
+                assert_eq!(report(Side::Client, &src), Ok(both));
+                assert_eq!(both.tidied + both.skipped + both.restated + both.saved, src.len());
+            }
+        }
     }
 }
 

@@ -4,6 +4,7 @@ use Rattle.std.specs.Prelude.{ℕ, suc, ◌+◌, ◌^◌, List, [], ◌∷◌, �
 use Rattle.std.proofs.Math.Option.{Option, none, some}
 use Rattle.refusal.specs.Outcome.{Outcome, accepted, refused, pick, all}
 use Rattle.varint.specs.Number.{bound, read_number, number_bytes}
+use Rattle.varint.specs.declared.Decoded.{Decoded}
 use Rattle.words.specs.Words.{zeros}
 
 abbrev pub places : ℕ
@@ -55,8 +56,8 @@ unfoldable pub place_of : ℕ → ℕ
 place_of id = pick (ltb id bound) (index_of id ids) places
 
 -- a number that is as long as its bytes
-abbrev pub fills : ℕ → Outcome (ℕ × ℕ) → Bool
-fills n (accepted a) = eqb a.1 n
+abbrev pub fills : ℕ → Outcome Decoded → Bool
+fills n (accepted a) = eqb a.count n
 fills n (refused e) = false
 
 -- a preferred address: 4 and 2 bytes of one family, 16 and 2 of the other, a length byte, the connection ID, 16 bytes of token

@@ -1,6 +1,6 @@
--- The worked examples (a) to (n), some lengths, second copies, other orders, faults of an order, datagram sizes, kinds of fault and the handshakes of RFC 9000
--- section 7.3: for each a side, an operation, its input and the outcome. The definitions are those that the contracts of reading, tidying, writing, the length,
--- the first fault of an order, resumption and the connection ID check cite.
+-- The worked examples (a) to (n), some lengths, second copies, other orders, faults of an order, datagram sizes, kinds of fault, the handshakes of RFC 9000
+-- section 7.3 and some reports: for each a side, an operation, its input and the outcome. The definitions are those that the contracts of reading, tidying, writing, the length,
+-- the report, the first fault of an order, resumption and the connection ID check cite.
 use Rattle.std.specs.Prelude.{ℕ, ◌+◌, ◌≡◌, List, [], ◌∷◌, ◌++◌, Bool, true, false, length, replicate, take}
 use Rattle.std.proofs.Math.Option.{Option, none, some}
 use Rattle.refusal.specs.Outcome.{Outcome, accepted, refused, and_then}
@@ -19,6 +19,8 @@ use Rattle.reader.specs.Reading.{read}
 use Rattle.writer.specs.Writing.{write, length_of}
 use Rattle.order.specs.Order.{order_fault}
 use Rattle.tidy.specs.Tidying.{tidy}
+use Rattle.tally.specs.declared.Counts.{Counts}
+use Rattle.report.specs.Report.{report}
 use Rattle.resumption.specs.Resumption.{resume}
 use Rattle.resumption.specs.AbsentAsZero.{sized}
 use Rattle.authentication.specs.declared.SeenConnectionIds.{SeenConnectionIds}
@@ -37,6 +39,8 @@ pub data Example : Type 0 where
   ordering : List ℕ → Option ℕ → Example
   -- a record that is resumed to, and the one remembered
   resuming : TransportParameters → TransportParameters → Outcome (Unit {0}) → Example
+  -- an extension that a side reports on
+  reporting : Side → List ℕ → Outcome Counts → Example
   -- an extension that a side reads, and the IDs that packets carried
   authenticating : Side → List ℕ → SeenConnectionIds → Outcome (Unit {0}) → Example
 
@@ -48,11 +52,16 @@ Holds (writing r t) = write r (replicate (length t) 0) ≡ (accepted (length t),
 Holds (measuring r o) = length_of r ≡ o
 Holds (ordering os o) = order_fault os ≡ o
 Holds (resuming new cached o) = resume new cached ≡ o
+Holds (reporting s e o) = report s e ≡ o
 Holds (authenticating s e seen o) = and_then (read s e) (λ r. authenticate_cids s r seen) ≡ o
 
 abbrev pub Each : List Example → Type 0
 Each [] = Unit {0}
 Each (x ∷ xs) = Holds x × Each xs
+
+-- the counts of a report, in document 02's order
+abbrev pub goes : ℕ → ℕ → ℕ → ℕ → ℕ → Counts
+goes a b c d n = record { tidied = a; skipped = b; restated = c; saved = d; named = n }
 
 -- a record with these numbers, original_dst_cid empty or absent, grease_quic_bit, min_ack_delay and order, and nothing else
 unfoldable pub with : List ℕ → Bool → Bool → OptionalNumber → WriteOrder → TransportParameters
@@ -240,4 +249,13 @@ examples =
     ∷ authenticating Server (says 0x0f (7 ∷ 0 ∷ [])) (seen (7 ∷ []) s1 no_retry) (refused 14)
     ∷  -- an ID of over 20 bytes that a server does not look at
     authenticating Server (says 0x0f c1) (record { initial_src_cid = cid_of c1; original_dst_cid = too_long; retry_src_cid = no_retry }) (refused 7)
+    ∷  -- where the bytes go (request 08): nothing; an unknown parameter; a default; an identifier, a length and a number in two bytes each; such a default, which
+    -- is counted whole; an unknown one behind (b); a second copy
+    reporting Client [] (accepted (goes 0 0 0 0 0))
+    ∷ reporting Client (0x1b ∷ 0x03 ∷ 0xaa ∷ 0xbb ∷ 0xcc ∷ []) (accepted (goes 0 5 0 0 0))
+    ∷ reporting Client (0x0e ∷ 0x01 ∷ 0x02 ∷ []) (accepted (goes 0 0 3 0 1))
+    ∷ reporting Client (0x40 ∷ 0x01 ∷ 0x40 ∷ 0x02 ∷ 0x40 ∷ 0x05 ∷ []) (accepted (goes 3 0 0 3 1))
+    ∷ reporting Client (0x40 ∷ 0x0a ∷ 0x40 ∷ 0x02 ∷ 0x40 ∷ 0x03 ∷ []) (accepted (goes 0 0 6 0 1))
+    ∷ reporting Client (idle ++ (unknown ++ grease)) (accepted (goes 9 (length unknown) 0 0 2))
+    ∷ reporting Client (0x01 ∷ 0x01 ∷ 0x05 ∷ 0x01 ∷ 0x01 ∷ 0x05 ∷ []) (refused 12)
     ∷ []

@@ -46,7 +46,7 @@ fn receive(met: u32, place: usize, value: &[u8]) -> Result<(), Fault> {
         len: value.len(),
         rest: value,
     };
-    received.receive(is_marked(met, place))?;
+    received.receive::<false>(is_marked(met, place))?;
     Ok(())
 }
 
@@ -56,8 +56,8 @@ fn locate(side: Side, src: &[u8]) -> Option<Culprit> {
     let mut met: u32 = 0;
     let mut breaker: Option<Culprit> = None;
     let mut delay: Option<Culprit> = None;
-    for (at, read) in (Parameters { src, at: 0 }) {
-        let Parameter { id, start, end } = match read {
+    for (at, read) in (Parameters::<false> { src, at: 0 }) {
+        let Parameter { id, start, end, .. } = match read {
             Ok(parameter) => parameter,
             Err(fault) => return Some(Culprit {
                 at,
@@ -144,14 +144,14 @@ fn note_cause(out: &mut Out, side: Side, c: Culprit)
 fn note_cut(out: &mut Out, rest: &[u8])
     ensures { Becomes Stream.Error out.old.fate out.new.fate }
 {
-    let Ok((id, n)) = VarInt::decode(rest) else {
+    let Ok(id) = VarInt::decode(rest) else {
         out.note(": cut off within its identifier\n");
         return;
     };
     out.note(", ");
-    note_name(out, id);
-    let behind = &rest[n..];
-    let Ok((len, m)) = VarInt::decode(behind) else {
+    note_name(out, id.value);
+    let behind = &rest[id.count..];
+    let Ok(len) = VarInt::decode(behind) else {
         let there = if behind.is_empty() {
             "before"
         } else {
@@ -160,8 +160,8 @@ fn note_cut(out: &mut Out, rest: &[u8])
         out.note(format_args!("cut off {there} its length\n"));
         return;
     };
-    let left = behind.len() - m;
-    let len = Count(len as usize);
+    let left = behind.len() - len.count;
+    let len = Count(len.value as usize);
     out.note(format_args!("cut off within its value, {left} of {len}\n"));
 }
 

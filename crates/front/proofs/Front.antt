@@ -16,23 +16,24 @@ use lib.Dec.{leb}
 use borrow.Author.Tests.{le-leb, leb-true}
 use Rattle.refusal.specs.Outcome.{Result, Outcome, accepted, refused, pick}
 use Rattle.refusal.proofs.Laws.{inverted, declined, picked}
-use Rattle.varint.specs.Number.{number_bytes, read_number}
+use Rattle.varint.specs.Number.{number_bytes, with_saved, read_number}
+use Rattle.varint.specs.declared.Decoded.{Decoded}
 use Rattle.varint.proofs.Laws.{read_number_bytes, read_within, number_append}
 use Rattle.catalogue.specs.Catalogue.{parameter}
 use Rattle.front.specs.declared.Fault.{Fault}
 use Rattle.front.specs.declared.Fault.TheVariants.{Cut}
 use Rattle.front.specs.Parameter.{or_cut, read_parameter}
 
--- what stands at the front: numbers of n and m bytes, an identifier and a length l, and a value of l bytes
+-- what stands at the front: two numbers, an identifier and a length, and a value of so many bytes
 pub record Front (bs : List ℕ) (id : ℕ) (v rest : List ℕ) : Type 0 where
-  pub n : ℕ
-  pub l : ℕ
-  pub m : ℕ
-  pub first : read_number bs ≡ accepted (id, n)
-  pub second : read_number (drop n bs) ≡ accepted (l, m)
-  pub room : l ≤ length (drop m (drop n bs))
-  pub val : v ≡ take l (drop m (drop n bs))
-  pub behind : rest ≡ drop l (drop m (drop n bs))
+  pub i : Decoded
+  pub l : Decoded
+  pub is : i.value ≡ id
+  pub first : read_number bs ≡ accepted i
+  pub second : read_number (drop i.count bs) ≡ accepted l
+  pub room : l.value ≤ length (drop l.count (drop i.count bs))
+  pub val : v ≡ take l.value (drop l.count (drop i.count bs))
+  pub behind : rest ≡ drop l.value (drop l.count (drop i.count bs))
 
 pub not_cut : {A : Type 0} (o : Outcome A) (a : A) → or_cut o ≡ accepted a → o ≡ accepted a
 not_cut (accepted b) a e = cc
@@ -42,8 +43,8 @@ pub only_cut : (bs : List ℕ) (x : Fault) → read_parameter bs ≡ refused x �
 unfolding read_parameter
 only_cut bs x e =
     declined (or_cut (read_number bs)) _ x e (λ r. cut (read_number bs) r) λ i ie ef.
-    declined (or_cut (read_number (drop i.1 bs))) _ x ef (λ r. cut (read_number (drop i.1 bs)) r) λ l le lf.
-    go (leb l.0 (length (drop l.1 (drop i.1 bs)))) _ lf
+    declined (or_cut (read_number (drop i.count bs))) _ x ef (λ r. cut (read_number (drop i.count bs)) r) λ l le lf.
+    go (leb l.value (length (drop l.count (drop i.count bs)))) _ lf
   where
     cut : {A : Type 0} (o : Outcome A) → or_cut o ≡ refused x → Cut ≡ x
     cut (accepted a) r = cc
@@ -57,39 +58,37 @@ pub at_front : (bs : List ℕ) (i : ℕ × List ℕ × List ℕ) → read_parame
 unfolding read_parameter
 at_front bs i e =
     inverted (or_cut (read_number bs)) _ i e λ x xc xf.
-    inverted (or_cut (read_number (drop x.1 bs))) _ i xf λ y yc yf.
-    let xe = not_cut (read_number bs) x xc in
-    let ye = not_cut (read_number (drop x.1 bs)) y yc in
+    inverted (or_cut (read_number (drop x.count bs))) _ i xf λ y yc yf.
     picked _ _ i Cut yf λ t q.
     record {
-      n = x.1;
-      l = y.0;
-      m = y.1;
-      first = xe ∙ ap (λ (j : ℕ × List ℕ × List ℕ). accepted (j.0, x.1)) q;
-      second = ye;
+      i = x;
+      l = y;
+      is = ap (λ (j : ℕ × List ℕ × List ℕ). j.0) q;
+      first = not_cut (read_number bs) x xc;
+      second = not_cut (read_number (drop x.count bs)) y yc;
       room = leb-true _ _ t;
       val = sym (ap (λ (j : ℕ × List ℕ × List ℕ). j.1) q);
       behind = sym (ap (λ (j : ℕ × List ℕ × List ℕ). j.2) q);
     }
 
-pub unfront : (bs : List ℕ) (i n l m : ℕ) → read_number bs ≡ accepted (i, n) → read_number (drop n bs) ≡ accepted (l, m)
-    → l ≤ length (drop m (drop n bs)) → read_parameter bs ≡ accepted (i, take l (drop m (drop n bs)), drop l (drop m (drop n bs)))
+pub unfront : (bs : List ℕ) (i l : Decoded) → read_number bs ≡ accepted i → read_number (drop i.count bs) ≡ accepted l → l.value ≤ length (drop l.count (drop i.count bs))
+    → read_parameter bs ≡ accepted (i.value, take l.value (drop l.count (drop i.count bs)), drop l.value (drop l.count (drop i.count bs)))
 unfolding read_parameter
-unfront bs i n l m e f h = rw (e, f, le-leb _ _ h)
+unfront bs i l e f h = rw (e, f, le-leb _ _ h)
 
 front_appended : (bs cs : List ℕ) (id : ℕ) (v rest : List ℕ) → Front bs id v rest → read_parameter (bs ++ cs) ≡ accepted (id, v, rest ++ cs)
 front_appended bs cs id v rest f =
-    let d : drop f.n (bs ++ cs) ≡ drop f.n bs ++ cs = drop-append-le f.n bs cs (read_within bs id f.n f.first).1 in
-    let d2 : drop f.m (drop f.n (bs ++ cs)) ≡ drop f.m (drop f.n bs) ++ cs
-    = rw d (drop-append-le f.m (drop f.n bs) cs (read_within (drop f.n bs) f.l f.m f.second).1) in
-    unfront (bs ++ cs) id f.n f.l f.m (number_append bs cs (id, f.n) f.first) (rw d (number_append (drop f.n bs) cs (f.l, f.m) f.second))
+    let d : drop f.i.count (bs ++ cs) ≡ drop f.i.count bs ++ cs = drop-append-le f.i.count bs cs (read_within bs f.i f.first).1 in
+    let d2 : drop f.l.count (drop f.i.count (bs ++ cs)) ≡ drop f.l.count (drop f.i.count bs) ++ cs
+    = rw d (drop-append-le f.l.count (drop f.i.count bs) cs (read_within (drop f.i.count bs) f.l f.second).1) in
+    unfront (bs ++ cs) f.i f.l (number_append bs cs f.i f.first) (rw d (number_append (drop f.i.count bs) cs f.l f.second))
     (rw d2 (simp length-append (omega (arith, f.room))))
-    ∙ rw (d2, take-append-le _ _ cs f.room, drop-append-le _ _ cs f.room, f.val, f.behind)
+    ∙ rw (d2, take-append-le _ _ cs f.room, drop-append-le _ _ cs f.room, f.is, f.val, f.behind)
 
 pub front_append : (bs cs : List ℕ) (i : ℕ × List ℕ × List ℕ) → read_parameter bs ≡ accepted i → read_parameter (bs ++ cs) ≡ accepted (i.0, i.1, i.2 ++ cs)
 front_append bs cs i e = front_appended bs cs i.0 i.1 i.2 (at_front bs i e)
 
-pub parts : (a b v cs : List ℕ) (id : ℕ) → read_number (a ++ (b ++ (v ++ cs))) ≡ accepted (id, length a) → read_number (b ++ (v ++ cs)) ≡ accepted (length v, length b)
+pub parts : (a b v cs : List ℕ) (id : ℕ) → read_number (a ++ (b ++ (v ++ cs))) ≡ accepted (with_saved id (length a)) → read_number (b ++ (v ++ cs)) ≡ accepted (with_saved (length v) (length b))
     → read_parameter (a ++ (b ++ (v ++ cs))) ≡ accepted (id, v, cs)
 unfolding read_parameter
 parts a b v cs id e f =
@@ -106,4 +105,4 @@ pub shorter : (bs : List ℕ) (i : ℕ × List ℕ × List ℕ) → read_paramet
 shorter bs i e = go i.0 i.1 i.2 (at_front bs i e)
   where
     go : (id : ℕ) (v rest : List ℕ) → Front bs id v rest → length rest < length bs
-    go id v rest f = rw f.behind (simp length-drop (omega (arith, read_within bs id f.n f.first)))
+    go id v rest f = rw f.behind (simp length-drop (omega (arith, read_within bs f.i f.first)))

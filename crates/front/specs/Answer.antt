@@ -1,12 +1,11 @@
 -- The code's answers in the papers' terms, and the number that a fault is refused with.
-use Rattle.std.specs.Prelude.{ℕ, Result as Answer, Ok, Err}
+use Rattle.std.specs.Prelude.{Result as Answer, Ok, Err}
 use Rattle.refusal.specs.Outcome.{Result, accepted, refused, Outcome}
 use Rattle.refusal.specs.Number.{number_of}
 use Rattle.refusal.specs.declared.Refusal.{Refusal}
 use Rattle.refusal.specs.declared.Refusal.TheVariants as refusal
 use Rattle.front.specs.declared.Fault.{Fault}
 use Rattle.front.specs.declared.Fault.TheVariants.{Cut, SecondCopy, Misfit, Illegal}
-use Rattle.front.specs.declared.Parameter.{Parameter}
 
 abbrev pub refused_with : Fault → Refusal
 refused_with Cut = refusal.Cut
@@ -21,7 +20,3 @@ numbered (refused f) = refused (number_of (refused_with f))
 abbrev pub fault_outcome : {A : Type 0} → Answer A Fault → Result Fault A
 fault_outcome (Ok a) = accepted a
 fault_outcome (Err f) = refused f
-
-abbrev pub parameter_outcome : Answer Parameter Fault → Result Fault (ℕ × ℕ × ℕ)
-parameter_outcome (Ok p) = accepted (p.id, p.start, p.end)
-parameter_outcome (Err f) = refused f

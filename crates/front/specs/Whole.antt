@@ -1,8 +1,9 @@
 -- Extensions put together from whole parameters.
-use Rattle.std.specs.Prelude.{ℕ, ◌≤◌, ◌<◌, ◌≡◌}
+use Rattle.std.specs.Prelude.{ℕ, zero, suc, ◌-◌, ◌≤◌, ◌<◌, ◌≡◌, length, take}
 use mathlib.Core.List.{List, [], ◌∷◌, ◌++◌, Perm}
-use Rattle.refusal.specs.Outcome.{accepted}
+use Rattle.refusal.specs.Outcome.{Result, accepted, refused}
 use Rattle.catalogue.specs.Catalogue.{places, place_of}
+use Rattle.front.specs.declared.Fault.{Fault}
 use Rattle.front.specs.Parameter.{read_parameter}
 
 -- bytes that are one parameter, with nothing behind it
@@ -25,6 +26,18 @@ pub data Inserted : List (List ℕ) → List (List ℕ) → Type 0 where
 abbrev pub Wholes : List (List ℕ) → Type 0
 Wholes [] = Unit {0}
 Wholes (w ∷ ws) = Whole w × Wholes ws
+
+-- the parameters that bytes are made of, from the front up to what cannot be read; each has a byte at least
+abbrev pub and_rest : List ℕ → (List ℕ → List (List ℕ)) → Result Fault (ℕ × List ℕ × List ℕ) → List (List ℕ)
+and_rest bs rest (accepted i) = take (length bs - length i.2) bs ∷ rest i.2
+and_rest bs rest (refused f) = []
+
+abbrev pub parameters_in : ℕ → List ℕ → List (List ℕ)
+parameters_in zero bs = []
+parameters_in (suc n) bs = and_rest bs (parameters_in n) (read_parameter bs)
+
+unfoldable pub parameters : List ℕ → List (List ℕ)
+parameters bs = parameters_in (length bs) bs
 
 -- bytes that are whole parameters, one after another
 pub record Composed (e : List ℕ) : Type 0 where

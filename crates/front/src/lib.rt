@@ -4,7 +4,7 @@
 ghost use Rattle.std.specs.Prelude.{◌≡◌, ◌≤◌, ◌-◌, length};
 ghost use Rattle.std.specs.Iterator.{at_most};
 ghost use Rattle.front.specs.Parameter.{located};
-ghost use Rattle.front.specs.Answer.{refused_with, parameter_outcome};
+ghost use Rattle.front.specs.Answer.{refused_with, fault_outcome};
 ghost use Rattle.front.specs.Walk.{Steps};
 
 use refusal::Refusal;
@@ -37,18 +37,21 @@ impl From<Fault> for Refusal {
     }
 }
 
-// A parameter of an extension: its identifier, and where its value starts and ends.
+// A parameter of an extension: its identifier, where its value starts and ends, and how many bytes the shortest forms of identifier and length would
+// have saved.
 #[derive(Clone, Copy, Debug, PartialEq, Eq)]
 pub struct Parameter {
     pub id: u64,
     pub start: usize,
     pub end: usize,
+    pub saved: usize,
 }
 
-// The parameter at a position. An identifier and a length of one byte each stand apart: most are.
+// The parameter at a position. An identifier and a length of one byte each stand apart: most are. `COUNTED` changes nothing that is given: whoever
+// leaves out what shorter forms would have saved has a copy of its own, in which it costs nothing, and whoever counts it has another.
 #[tactic(auto, using(crate::proofs::Position::none_there, crate::proofs::Position::short_whole, crate::proofs::Position::short_beyond))]
-pub fn parameter_at(src: &[u8], at: usize) -> Result<Parameter, Fault>
-    ensures { parameter_outcome result ≡ located src.now at }
+pub fn parameter_at<const COUNTED: bool>(src: &[u8], at: usize) -> Result<Parameter, Fault>
+    ensures { fault_outcome result ≡ located src.now at }
 {
     if src.len() < at {
         return Err(Fault::Cut);
@@ -67,47 +70,49 @@ pub fn parameter_at(src: &[u8], at: usize) -> Result<Parameter, Fault>
                 id: u64::from(id),
                 start,
                 end,
+                saved: 0,
             });
         }
     }
-    any_parameter_at(src, at)
+    any_parameter_at::<COUNTED>(src, at)
 }
 
 #[tactic(auto, using(crate::proofs::Position::first_within, crate::proofs::Position::second_within, crate::proofs::Position::first_cut, crate::proofs::Position::second_cut, crate::proofs::Position::whole, crate::proofs::Position::beyond))]
-fn any_parameter_at(src: &[u8], at: usize) -> Result<Parameter, Fault>
+fn any_parameter_at<const COUNTED: bool>(src: &[u8], at: usize) -> Result<Parameter, Fault>
     requires { at ≤ length src.now }
-    ensures { parameter_outcome result ≡ located src.now at }
+    ensures { fault_outcome result ≡ located src.now at }
 {
-    let Ok((id, n)) = VarInt::decode(&src[at..]) else {
+    let Ok(id) = VarInt::decode(&src[at..]) else {
         return Err(Fault::Cut);
     };
-    let b = at + n;
-    let Ok((len, m)) = VarInt::decode(&src[b..]) else {
+    let b = at + id.count;
+    let Ok(len) = VarInt::decode(&src[b..]) else {
         return Err(Fault::Cut);
     };
-    let start = b + m;
+    let start = b + len.count;
     let left = src.len() - start;
-    if len > left as u64 {
+    if len.value > left as u64 {
         return Err(Fault::Cut);
     }
     Ok(Parameter {
-        id,
+        id: id.value,
         start,
-        end: start + (len as usize),
+        end: start + (len.value as usize),
+        saved: id.saved + len.saved,
     })
 }
 
-// The parameters of the bytes from a position on, each with where it starts; the last is the first that cannot be read.
+// The parameters of the bytes from a position on, each with where it starts; the last is the first that cannot be read. `COUNTED` as above.
 #[derive(Drop)]
-pub struct Parameters<'a> {
+pub struct Parameters<'a, const COUNTED: bool> {
     pub src: &'a [u8],
     pub at: usize,
 }
 
-impl<'a> Iterator for Parameters<'a> {
+impl<'a, const COUNTED: bool> Iterator for Parameters<'a, COUNTED> {
     type Item = (usize, Result<Parameter, Fault>);
 
-    ghost next_gives = { Steps };
+    ghost next_gives = { λ s r t. Steps s r t };
 
     ghost remaining = { λ s. at_most (length s.src.now - s.at) };
 
@@ -117,7 +122,7 @@ impl<'a> Iterator for Parameters<'a> {
         if self.src.len() <= at {
             return None;
         }
-        let read = parameter_at(self.src, at);
+        let read = parameter_at::<COUNTED>(self.src, at);
         self.at = match read {
             Ok(p) => p.end,
             Err(_) => self.src.len(),

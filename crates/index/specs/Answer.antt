@@ -10,8 +10,8 @@ use Rattle.index.specs.Index.{Found}
 abbrev pub found_of : Entries → Found
 found_of e = (e.marks, e.kept, e.lens)
 
-abbrev pub scan_outcome : Answer (Unit {0}) Fault → Entries → Result Fault Found
-scan_outcome (Ok u) e = accepted (found_of e)
+abbrev pub scan_outcome : {A : Type 0} → Answer A Fault → Entries → Result Fault Found
+scan_outcome (Ok a) e = accepted (found_of e)
 scan_outcome (Err f) e = refused f
 
 -- what is found, of what an answer gives

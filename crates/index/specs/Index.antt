@@ -1,5 +1,5 @@
 -- What is kept of an extension: marks of the places met; by place, the number or where the value starts; and the value's length.
-use Rattle.std.specs.Prelude.{ℕ, zero, suc, ◌+◌, ◌-◌, ◌%◌, ◌≤◌, List, [], ◌∷◌, ◌++◌, ◌≡◌, Bool, true, false, ◌&&◌, length, get_or, take, drop, set, replicate, ltb}
+use Rattle.std.specs.Prelude.{ℕ, zero, suc, ◌+◌, ◌-◌, ◌%◌, ◌^◌, ◌<◌, ◌≤◌, List, [], ◌∷◌, ◌++◌, ◌≡◌, Bool, true, false, ◌&&◌, length, get_or, take, drop, set, replicate, ltb}
 use Rattle.std.specs.Prelude.{None, Some}
 use Rattle.std.proofs.Math.Option.{Option, none, some}
 use Rattle.refusal.specs.Outcome.{Result, accepted, refused, pick, and_then, all}
@@ -12,6 +12,9 @@ use Rattle.rules.specs.Rules.{is_server, number_rules, presence_rules}
 use Rattle.front.specs.declared.Fault.{Fault}
 use Rattle.front.specs.declared.Fault.TheVariants.{Illegal}
 use Rattle.front.specs.Parameter.{located}
+use Rattle.front.specs.Whole.{parameters}
+use Rattle.tally.specs.declared.Sums.{Sums}
+use Rattle.tally.specs.Tally.{counts, dropped}
 use Rattle.value.specs.Value.{receive_value}
 
 -- marks, numbers or starts, lengths
@@ -29,11 +32,12 @@ nothing = (0, initial_kept, replicate places 0)
 unfoldable pub keep : Found → ℕ → ℕ → ℕ → Found
 keep f p x n = (mark f.0 p, set f.1 p x, set f.2 p (n % 256))
 
--- a parameter: its identifier, where its value starts, and the value. An unknown one is skipped
+-- a parameter: its identifier, where its value starts, and the value. An unknown one is skipped; what a shorter form would have saved is left to
+-- the counts
 unfoldable pub note : Found → ℕ → ℕ → List ℕ → Result Fault Found
 note f id a v =
     pick (ltb (place_of id) places)
-    (and_then (receive_value (marked f.0 (place_of id)) (place_of id) a v) λ x. accepted (keep f (place_of id) x (length v)))
+    (and_then (receive_value (marked f.0 (place_of id)) (place_of id) a v) λ x. accepted (keep f (place_of id) x.kept (length v)))
     (accepted f)
 
 -- the bytes from one position to another
@@ -44,7 +48,7 @@ between s a e = take (e - a) (drop a s)
 abbrev pub index_in : ℕ → List ℕ → ℕ → Found → Result Fault Found
 index_in zero s at f = accepted f
 index_in (suc n) s at f =
-    pick (ltb at (length s)) (and_then (located s at) λ i. and_then (note f i.0 i.1 (between s i.1 i.2)) λ g. index_in n s i.2 g) (accepted f)
+    pick (ltb at (length s)) (and_then (located s at) λ i. and_then (note f i.id i.start (between s i.start i.end)) λ g. index_in n s i.end g) (accepted f)
 
 -- each has a byte at least
 unfoldable pub index_from : List ℕ → ℕ → Found → Result Fault Found
@@ -88,8 +92,14 @@ kept_rules side s f =
 unfoldable pub indexed : Side → List ℕ → Result Fault Found
 indexed side s = and_then (index_from s 0 nothing) λ f. pick (kept_rules side s f) (accepted f) (refused Illegal)
 
--- what is kept of an extension in which no parameter is at fault: the values that are no numbers lie within it, and fit
+-- of one that a side accepts, for a report: the marks of the places met, and what tidying drops
+unfoldable pub counted : Side → List ℕ → Result Fault (ℕ × Sums)
+counted side s = and_then (indexed side s) λ f. accepted (f.0, dropped (counts (parameters s)))
+
+-- what is kept of an extension in which no parameter is at fault: only places of the catalogue are marked, and the values that are no numbers lie
+-- within it, and fit
 pub record Sound (s : List ℕ) (f : Found) : Type 0 where
+  pub marks : f.0 < 2 ^ places
   pub long : length f.1 ≡ places
   pub long_lens : length f.2 ≡ places
   pub within : (p : ℕ) → (kind_at p ≡ number → ⊥) → get_or f.1 p 0 + get_or f.2 p 0 ≤ length s

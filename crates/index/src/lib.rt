@@ -2,10 +2,13 @@
 // record of this, and tidying the shortest form.
 #![tactic(auto)]
 
-ghost use Rattle.std.specs.Prelude.{◌≡◌, ◌<◌, option_copied, IfOk};
+ghost use Rattle.std.specs.Prelude.{◌≡◌, option_copied, IfOk};
 ghost use Rattle.words.specs.Words.{elements};
 ghost use Rattle.marks.specs.Mark.{marked};
-ghost use Rattle.index.specs.Index.{nothing, index_from, id_len, kept_rules, indexed, value_of, optional_at, Sound};
+ghost use Rattle.front.specs.Whole.{parameters};
+ghost use Rattle.front.specs.Answer.{fault_outcome};
+ghost use Rattle.tally.specs.Tally.{counts, dropped};
+ghost use Rattle.index.specs.Index.{nothing, index_from, id_len, kept_rules, indexed, counted, value_of, optional_at, Sound};
 ghost use Rattle.index.specs.Answer.{found_of, scan_outcome, index_outcome, given};
 
 use catalogue::{
@@ -15,6 +18,7 @@ use catalogue::{
 use front::{Fault, Parameter, Parameters};
 use marks::{is_marked, with_mark};
 use rules::{Microseconds, Presence, Side};
+use tally::{Sums, restates};
 use value::Received;
 
 // What is found in an extension: the marks of the places met; and what is kept, by place: the number, or where the value starts; and the value's
@@ -88,14 +92,25 @@ impl Entries {
         self.is_met(place).then_some(x)
     }
 
-    // Goes through the parameters. A mark is looked up and set before it is asked whether the place is one of the catalogue: asked first, the compiler
-    // takes the arrays apart.
+    // Goes through the parameters, and adds up what tidying drops of them. A mark is looked up and set before it is asked whether the place is one of the
+    // catalogue: asked first, the compiler takes the arrays apart. Where the sums are left out, as `COUNTED` says, they cost nothing.
     #[tactic(auto, using(crate::proofs::Turn::known))]
-    fn scan(&mut self, src: &[u8]) -> Result<(), Fault>
-        ensures { scan_outcome result self.new ≡ index_from src.now 0 (found_of self.old) }
+    fn scan<const COUNTED: bool>(&mut self, src: &[u8]) -> Result<Sums, Fault>
+        ensures found { scan_outcome result self.new ≡ index_from src.now 0 (found_of self.old) }
+        ensures sums { IfOk result (λ sums. sums ≡ dropped (counts (parameters src.now))) }
     {
-        for (_, read) in (Parameters { src, at: 0 }) {
-            let Parameter { id, start, end } = read?;
+        let mut sums = Sums {
+            skipped: 0,
+            restated: 0,
+            saved: 0,
+        };
+        for (at, read) in (Parameters::<COUNTED> { src, at: 0 }) {
+            let Parameter {
+                id,
+                start,
+                end,
+                saved,
+            } = read?;
             let place = catalogue::place_of(id);
             let met = self.is_met(place);
             let marks = with_mark(self.marks, place);
@@ -106,13 +121,20 @@ impl Entries {
                     len: end - start,
                     rest: &src[start..],
                 };
-                let x = received.receive(met)?;
-                self.kept[place] = x;
+                let x = received.receive::<COUNTED>(met)?;
+                self.kept[place] = x.kept;
                 self.lens[place] = ((end - start) % 256) as u8;
                 self.marks = marks;
+                if restates(place, x.kept) {
+                    sums.restated += end - at;
+                } else {
+                    sums.saved += saved + x.saved;
+                }
+            } else {
+                sums.skipped += end - at;
             }
         }
-        Ok(())
+        Ok(sums)
     }
 }
 
@@ -190,9 +212,25 @@ pub fn index<'a>(side: Side, src: &'a [u8]) -> Result<Kept<'a>, Fault>
         entries: Entries::empty(),
         src,
     };
-    kept.entries.scan(src)?;
+    kept.entries.scan::<false>(src)?;
     if !kept.is_allowed(side) {
         return Err(Fault::Illegal);
     }
     Ok(kept)
+}
+
+// The same for a report: the marks of the places met, and what tidying drops. No part of what is kept: reading would take a sixth longer.
+#[tactic(auto, using(crate::proofs::Settled::not_counted, crate::proofs::Settled::counted_lem, crate::proofs::Settled::illegal))]
+pub fn counted(side: Side, src: &[u8]) -> Result<(u32, Sums), Fault>
+    ensures { fault_outcome result ≡ counted side src.now }
+{
+    let mut found = Kept {
+        entries: Entries::empty(),
+        src,
+    };
+    let sums = found.entries.scan::<true>(src)?;
+    if found.is_allowed(side) {
+        return Ok((found.entries.marks, sums));
+    }
+    Err(Fault::Illegal)
 }

@@ -18,10 +18,13 @@ use Rattle.catalogue.specs.Catalogue.{number, places, place_of, kind_at, default
 use Rattle.record.specs.Values.{Values, no_values, is_some, upd, number_in}
 use Rattle.front.specs.declared.Fault.{Fault}
 use Rattle.front.specs.declared.Fault.TheVariants.{SecondCopy, Misfit, Illegal}
+use Rattle.front.specs.declared.Parameter.{Parameter}
 use Rattle.front.specs.Parameter.{located}
 use Rattle.front.proofs.Position.{within, cut_out, located_front}
-use Rattle.value.specs.Value.{kept_of, check_kind, receive_value}
-use Rattle.value.proofs.Checks.{taken}
+use Rattle.varint.specs.Number.{read_number}
+use Rattle.value.specs.declared.Held.{Held}
+use Rattle.value.specs.Value.{held_of, check_kind, receive_value}
+use Rattle.value.proofs.Checks.{taken, kept_number}
 use Rattle.index.specs.Index.{Found, nothing, keep, note, between, index_in, index_from, value_at, Sound}
 use Rattle.index.proofs.Sound.{initial_at, start_sound, keep_sound, start_kept, length_kept}
 use Rattle.reader.specs.Reading.{receive, step, parse}
@@ -42,7 +45,7 @@ start_agrees s =
     }
 
 -- a value more
-module _ (s : List ℕ) (a e : ℕ) (ae : a ≤ e) (el : e ≤ length s) (f : Found) (i : Sound s f) (p x : ℕ) (b : Bool) (h : p < places)
+module _ (s : List ℕ) (a e : ℕ) (ae : a ≤ e) (el : e ≤ length s) (f : Found) (i : Sound s f) (p : ℕ) (x : Held) (b : Bool) (h : p < places)
     (r : accepted x ≡ receive_value b p a (between s a e)) (l : Values) (g : Agrees s f l) where
   hk : p < length f.1
   hk = rw i.long h
@@ -50,11 +53,11 @@ module _ (s : List ℕ) (a e : ℕ) (ae : a ≤ e) (el : e ≤ length s) (f : Fo
   hl : p < length f.2
   hl = rw i.long_lens h
 
-  same_number : kind_at p ≡ number → x ≡ number_in (get_or defaults p 0) (some (between s a e))
+  same_number : kind_at p ≡ number → x.kept ≡ number_in (get_or defaults p 0) (some (between s a e))
   unfolding number_in
-  same_number k = (taken b p a (between s a e) x r).is ∙ (unfold kept_of in rw k)
+  same_number k = ap (λ (h : Held). h.kept) (taken b p a (between s a e) x r).is ∙ (unfold held_of in rw k (kept_number (read_number (between s a e))))
 
-  pub keep_agrees : Agrees s (keep f p x (length (between s a e))) (upd l p (some (between s a e)))
+  pub keep_agrees : Agrees s (keep f p x.kept (length (between s a e))) (upd l p (some (between s a e)))
   unfolding keep value_at
   keep_agrees =
       record { met = λ q. met_at q (eqb q p) refl; number_at = λ q k. number_there q k (eqb q p) refl; value_at = λ q n. value_there q n (eqb q p) refl }
@@ -64,17 +67,17 @@ module _ (s : List ℕ) (a e : ℕ) (ae : a ≤ e) (el : e ≤ length s) (f : Fo
       met_at q false d = let n = eqb-false q p d in rw (upd_there l p q (some (between s a e)) n, marked_other f.0 p q n) (g.met q)
 
       number_there : (q : ℕ) → kind_at q ≡ number → (c : Bool) → eqb q p ≡ c
-          → get_or (set f.1 p x) q 0 ≡ number_in (get_or defaults q 0) (upd l p (some (between s a e)) q)
+          → get_or (set f.1 p x.kept) q 0 ≡ number_in (get_or defaults q 0) (upd l p (some (between s a e)) q)
       number_there q k true d =
           let z : q ≡ p = eqb-true q p d in
           let kp : kind_at p ≡ number = rw z at k in
-          rw (z, get_or-set_same f.1 p x 0 hk, upd_here l p (some (between s a e))) (same_number kp)
+          rw (z, get_or-set_same f.1 p x.kept 0 hk, upd_here l p (some (between s a e))) (same_number kp)
       number_there q k false d =
           let n = eqb-false q p d in
-          rw (get_or-set_other f.1 p q x 0 n, upd_there l p q (some (between s a e)) n) (g.number_at q k)
+          rw (get_or-set_other f.1 p q x.kept 0 n, upd_there l p q (some (between s a e)) n) (g.number_at q k)
 
       value_there : (q : ℕ) → (kind_at q ≡ number → ⊥) → (c : Bool) → eqb q p ≡ c
-          → upd l p (some (between s a e)) q ≡ value_at s (mark f.0 p, set f.1 p x, set f.2 p (length (between s a e) % 256)) q
+          → upd l p (some (between s a e)) q ≡ value_at s (mark f.0 p, set f.1 p x.kept, set f.2 p (length (between s a e) % 256)) q
       value_there q n true d =
           let z : q ≡ p = eqb-true q p d in
           let n' : kind_at p ≡ number → ⊥ = λ k. n (rw z k) in
@@ -82,7 +85,7 @@ module _ (s : List ℕ) (a e : ℕ) (ae : a ≤ e) (el : e ≤ length s) (f : Fo
             z,
             upd_here l p (some (between s a e)),
             marked_same f.0 p,
-            get_or-set_same f.1 p x 0 hk,
+            get_or-set_same f.1 p x.kept 0 hk,
             get_or-set_same f.2 p (length (between s a e) % 256) 0 hl,
             start_kept s a e ae el f i p x b h r n',
             length_kept s a e ae el f i p x b h r n',
@@ -92,7 +95,7 @@ module _ (s : List ℕ) (a e : ℕ) (ae : a ≤ e) (el : e ≤ length s) (f : Fo
           rw (
             upd_there l p q (some (between s a e)) m,
             marked_other f.0 p q m,
-            get_or-set_other f.1 p q x 0 m,
+            get_or-set_other f.1 p q x.kept 0 m,
             get_or-set_other f.2 p q (length (between s a e) % 256) 0 m,
           )
           (g.value_at q n)
@@ -104,7 +107,7 @@ receive_open l p a v = go (is_some (l p)) (illegal (kind_at p) v) (fits (kind_at
   where
     go : (t i c : Bool)
         → pick {A = Result Fault Values} t (refused SecondCopy) (pick i (refused Illegal) (pick c (accepted (upd l p (some v))) (refused Misfit)))
-        ≡ and_then (pick {A = Result Fault ℕ} t (refused SecondCopy) (pick i (refused Illegal) (pick c (accepted (kept_of (kind_at p) a v)) (refused Misfit)))) (λ x. accepted (upd l p (some v)))
+        ≡ and_then (pick {A = Result Fault Held} t (refused SecondCopy) (pick i (refused Illegal) (pick c (accepted (held_of (kind_at p) a v)) (refused Misfit)))) (λ x. accepted (upd l p (some v)))
     go true i c = refl
     go false true c = refl
     go false false true = refl
@@ -126,38 +129,38 @@ at_end s at f l h i g = rw (drop_of_length-le s h, parse_nil l) (i, g)
 
 -- one parameter, and then the rest
 module _ (n : ℕ) (ih : Simulates n) (s : List ℕ) (at : ℕ) (f : Found) (l : Values) (hl : at < length s) (hn : length s - at ≤ suc n) (i : Sound s f) (g : Agrees s f l) where
-  module _ (id a e : ℕ) (q : located s at ≡ accepted (id, a, e)) where
-    front : parse l (drop at s) ≡ and_then (step l id (between s a e)) (λ m. parse m (drop e s))
-    front = parse_front l (drop at s) (id, between s a e, drop e s) (located_front s at ∙ ap (cut_out s) q)
+  module _ (j : Parameter) (q : located s at ≡ accepted j) where
+    front : parse l (drop at s) ≡ and_then (step l j.id (between s j.start j.end)) (λ m. parse m (drop j.end s))
+    front = parse_front l (drop at s) (j.id, between s j.start j.end, drop j.end s) (located_front s at ∙ ap (cut_out s) q)
 
-    rest : (f' : Found) (l' : Values) → Sound s f' → Agrees s f' l' → Related s (index_in n s e f') (parse l' (drop e s))
+    rest : (f' : Found) (l' : Values) → Sound s f' → Agrees s f' l' → Related s (index_in n s j.end f') (parse l' (drop j.end s))
     unfolding Simulates
     rest f' l' i' g' =
-        let w = within s at id a e (omega arith) (sym q) in
-        ih s e f' l' w.end (omega (arith, w.behind, w.start)) i' g'
+        let w = within s at j (omega arith) (sym q) in
+        ih s j.end f' l' w.end (omega (arith, w.behind, w.start)) i' g'
 
-    known : (p : ℕ) → p < places → (o : Result Fault ℕ) → receive_value (marked f.0 p) p a (between s a e) ≡ o
-        → Related s (and_then (and_then o λ x. accepted (keep f p x (length (between s a e)))) (λ k. index_in n s e k))
-        (and_then (and_then o λ x. accepted (upd l p (some (between s a e)))) (λ m. parse m (drop e s)))
+    known : (p : ℕ) → p < places → (o : Result Fault Held) → receive_value (marked f.0 p) p j.start (between s j.start j.end) ≡ o
+        → Related s (and_then (and_then o λ x. accepted (keep f p x.kept (length (between s j.start j.end)))) (λ k. index_in n s j.end k))
+        (and_then (and_then o λ x. accepted (upd l p (some (between s j.start j.end)))) (λ m. parse m (drop j.end s)))
     known p h (refused x) r = refl
     known p h (accepted x) r =
-        let w = within s at id a e (omega arith) (sym q) in
-        rest _ _ (keep_sound s a e w.start w.end f i p x _ h (sym r)) (keep_agrees s a e w.start w.end f i p x _ h (sym r) l g)
+        let w = within s at j (omega arith) (sym q) in
+        rest _ _ (keep_sound s j.start j.end w.start w.end f i p x _ h (sym r)) (keep_agrees s j.start j.end w.start w.end f i p x _ h (sym r) l g)
 
-    turned : (c : Bool) → ltb (place_of id) places ≡ c
-        → Related s (and_then (pick c (and_then (receive_value (marked f.0 (place_of id)) (place_of id) a (between s a e)) λ x. accepted (keep f (place_of id) x (length (between s a e)))) (accepted f)) (λ k. index_in n s e k))
-        (and_then (pick c (receive l (place_of id) (between s a e)) (accepted l)) (λ m. parse m (drop e s)))
+    turned : (c : Bool) → ltb (place_of j.id) places ≡ c
+        → Related s (and_then (pick c (and_then (receive_value (marked f.0 (place_of j.id)) (place_of j.id) j.start (between s j.start j.end)) λ x. accepted (keep f (place_of j.id) x.kept (length (between s j.start j.end)))) (accepted f)) (λ k. index_in n s j.end k))
+        (and_then (pick c (receive l (place_of j.id) (between s j.start j.end)) (accepted l)) (λ m. parse m (drop j.end s)))
     turned false d = rest f l i g
     turned true d =
-        rw (receive_open l (place_of id) a (between s a e), g.met (place_of id))
-        (known (place_of id) (ltb-true _ _ d) (receive_value (marked f.0 (place_of id)) (place_of id) a (between s a e)) refl)
+        rw (receive_open l (place_of j.id) j.start (between s j.start j.end), g.met (place_of j.id))
+        (known (place_of j.id) (ltb-true _ _ d) (receive_value (marked f.0 (place_of j.id)) (place_of j.id) j.start (between s j.start j.end)) refl)
 
-  one : (o : Result Fault (ℕ × ℕ × ℕ)) → located s at ≡ o
-      → Related s (and_then o λ i. and_then (note f i.0 i.1 (between s i.1 i.2)) λ k. index_in n s i.2 k) (parse l (drop at s))
+  one : (o : Result Fault Parameter) → located s at ≡ o
+      → Related s (and_then o λ i. and_then (note f i.id i.start (between s i.start i.end)) λ k. index_in n s i.end k) (parse l (drop at s))
   one (refused x) q =
       rw (parse_cut l (drop at s) x (simp length-drop (omega arith)) (located_front s at ∙ ap (cut_out s) q)) refl
   one (accepted j) q =
-      rw (front j.0 j.1 j.2 q) (unfold note step in turned j.0 j.1 j.2 q (ltb (place_of j.0) places) refl)
+      rw (front j q) (unfold note step in turned j q (ltb (place_of j.id) places) refl)
 
 simulate : (n : ℕ) → Simulates n
 unfolding Simulates
@@ -165,7 +168,7 @@ simulate zero s at f l h k i g = at_end s at f l (omega arith) i g
 simulate (suc n) s at f l h k i g = go (ltb at (length s)) refl (simulate n)
   where
     go : (c : Bool) → ltb at (length s) ≡ c → Simulates n
-        → Related s (pick c (and_then (located s at) λ i. and_then (note f i.0 i.1 (between s i.1 i.2)) λ k. index_in n s i.2 k) (accepted f)) (parse l (drop at s))
+        → Related s (pick c (and_then (located s at) λ i. and_then (note f i.id i.start (between s i.start i.end)) λ k. index_in n s i.end k) (accepted f)) (parse l (drop at s))
     go false d ih = at_end s at f l (ltb-false at (length s) d) i g
     go true d ih = one n ih s at f l (ltb-true at (length s) d) k i g (located s at) refl
 

@@ -25,16 +25,18 @@ sized bs i hb e = go i.0 i.1 i.2 (at_front bs i e)
   where
     go : (id : ℕ) (v rest : List ℕ) → Front bs id v rest → Sized bs id v rest
     go id v rest f =
-        let hd = bytes_drop f.n bs hb in
-        let hd2 = bytes_drop f.m (drop f.n bs) hd in
-        let w = read_bounds bs id f.n hb f.first in
-        let w2 = read_bounds (drop f.n bs) f.l f.m hd f.second in
-        let r2 : f.l ≤ length bs - f.n - f.m = simp length-drop at f.room in
-        let w3 : f.m ≤ length bs - f.n = simp length-drop at w2.1 in
-        let lv : length v ≡ f.l = rw f.val (length-take-le _ _ f.room) in
+        let n = f.i.count in
+        let m = f.l.count in
+        let hd = bytes_drop n bs hb in
+        let hd2 = bytes_drop m (drop n bs) hd in
+        let w = read_bounds bs f.i hb f.first in
+        let w2 = read_bounds (drop n bs) f.l hd f.second in
+        let r2 : f.l.value ≤ length bs - n - m = simp length-drop at f.room in
+        let w3 : m ≤ length bs - n = simp length-drop at w2.1 in
+        let lv : length v ≡ f.l.value = rw f.val (length-take-le _ _ f.room) in
         record {
-          id_lt = w.0;
-          value_bytes = rw f.val (bytes_take f.l _ hd2);
-          rest_bytes = rw f.behind (bytes_drop f.l _ hd2);
-          long = rw f.behind (simp (length-append, length-drop, lv) (omega (arith, w, w2)));
+          id_lt = rw f.is at w.0;
+          value_bytes = rw f.val (bytes_take f.l.value _ hd2);
+          rest_bytes = rw f.behind (bytes_drop f.l.value _ hd2);
+          long = rw (← f.is, f.behind) (simp (length-append, length-drop, lv) (omega (arith, w, w2)));
         }

@@ -15,7 +15,8 @@ use lib.Dec.{eqb}
 use borrow.Author.Tests.{le-leb, leb-true, lt-ltb, ltb-true, eq-eqb, eqb-true}
 use Rattle.refusal.specs.Outcome.{Outcome, accepted, refused, pick, all}
 use Rattle.refusal.proofs.Laws.{all_at}
-use Rattle.varint.specs.Number.{read_number, number_bytes, tag_of}
+use Rattle.varint.specs.Number.{read_number, with_saved, number_bytes, tag_of}
+use Rattle.varint.specs.declared.Decoded.{Decoded}
 use Rattle.varint.proofs.Laws.{read_number_bytes, read_bounds}
 use Rattle.varint.proofs.Bytes.{length_form, tag_le, tag_least, tag_cases, width_range}
 use Rattle.connection_id.specs.declared.ConnectionId.{ConnectionId}
@@ -67,7 +68,7 @@ pub parameter_mono : (id : ℕ) (v w : List ℕ) → length v ≤ length w → l
 unfolding parameter
 parameter_mono id v w h = simp length-append (omega (arith, number_mono (length v) (length w) h))
 
-number_read_lem : (x : ℕ) → x < 2 ^ 62 → read_number (number_bytes x) ≡ accepted (x, length (number_bytes x))
+number_read_lem : (x : ℕ) → x < 2 ^ 62 → read_number (number_bytes x) ≡ accepted (with_saved x (length (number_bytes x)))
 number_read_lem x h = rw append-nil at (read_number_bytes x [] h)
 
 number_sound : {F : Type 0} (x : ℕ) → x < 2 ^ 62 → Sound F number (number_bytes x)
@@ -80,11 +81,11 @@ number_sound x h =
     }
 
 -- a number that fits is below 2 ^ 62 and its bytes no fewer than the shortest
-filled : (v : List ℕ) (o : Outcome (ℕ × ℕ)) → read_number v ≡ o → Bytes v → fills (length v) o ≡ true
+filled : (v : List ℕ) (o : Outcome Decoded) → read_number v ≡ o → Bytes v → fills (length v) o ≡ true
     → (value o < 2 ^ 62) × (length (number_bytes (value o)) ≤ length v)
 filled v (accepted a) e hb f =
-    let b = read_bounds v a.0 a.1 hb e in
-    let q : a.1 ≡ length v = eqb-true a.1 (length v) f in
+    let b = read_bounds v a hb e in
+    let q : a.count ≡ length v = eqb-true a.count (length v) f in
     (b.0, omega arith)
 filled v (refused n) e hb f = cc
 

@@ -28,7 +28,7 @@ use Rattle.record.proofs.KindLaws.{Fits, IfSome, Sound}
 use Rattle.record.proofs.Address.{address_back, address_sent, address_formed, families_formed, address_short}
 
 -- a fact of each place: the numbers alike, then place 11, then 12 to 20 by a list
-abbrev Each : (ℕ → Option (List ℕ) → Type 0) → ℕ → List (Option (List ℕ)) → Type 0
+abbrev pub Each : (ℕ → Option (List ℕ) → Type 0) → ℕ → List (Option (List ℕ)) → Type 0
 Each P k [] = Unit {0}
 Each P k (o ∷ os) = P k o × Each P (suc k) os
 

@@ -4,6 +4,7 @@ use Rattle.std.specs.Prelude.{ℕ, suc, ◌+◌, ◌-◌, ◌<◌, List, [], ◌
 use Rattle.std.proofs.Math.Option.{Option, none, some}
 use Rattle.refusal.specs.Outcome.{Outcome, accepted, refused, pick}
 use Rattle.varint.specs.Number.{read_number, number_bytes}
+use Rattle.varint.specs.declared.Decoded.{Decoded}
 use Rattle.words.specs.Words.{zeros, value_from, bytes_of}
 use Rattle.connection_id.specs.ConnectionId.{cid_of, cid_bytes}
 use Rattle.record.specs.declared.TransportParameters.{TransportParameters}
@@ -39,8 +40,8 @@ unfoldable pub upd : Values → ℕ → Option (List ℕ) → Values
 upd l p x q = pick (eqb q p) x (l q)
 
 -- NUMBERS, of default d: the default is not sent
-abbrev pub value : Outcome (ℕ × ℕ) → ℕ
-value (accepted a) = a.0
+abbrev pub value : Outcome Decoded → ℕ
+value (accepted a) = a.value
 value (refused e) = 0
 
 unfoldable pub number_in : ℕ → Option (List ℕ) → ℕ

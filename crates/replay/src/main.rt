@@ -10,6 +10,7 @@ mod operation;
 use operation::{OPERATIONS, Operation};
 use std::io;
 use std::io::{Read, Stdin};
+use tally::Counts;
 use words::bytes_at;
 
 // The longest output of an entry.
@@ -70,13 +71,13 @@ fn part<'a>(b: &'a [u8], from: usize, to: usize) -> &'a [u8] {
     b.get(from..to).unwrap_or(b)
 }
 
-// What a call gave: the refusal or 0; a count, a limit or a size, 0 where none is due, and none where one is stored that is not; and the value
-// that number_read stores.
+// What a call gave: the refusal or 0; a count, a limit or a size, 0 where none is due, and none where one is stored that is not; and what
+// number_read and report store besides, none where nothing is.
 #[derive(Clone, Copy)]
 struct Called {
     code: u8,
     number: Option<u64>,
-    value: Option<u64>,
+    values: Option<[u64; 5]>,
 }
 
 // A call that stores a number; a refused one stores none.
@@ -84,7 +85,7 @@ fn storing(code: u8, number: u64) -> Called {
     Called {
         code,
         number: stored(code == 0, number),
-        value: None,
+        values: None,
     }
 }
 
@@ -110,17 +111,44 @@ fn plain(code: u8) -> Called {
     Called {
         code,
         number: Some(0),
-        value: None,
+        values: None,
     }
 }
 
+// The value and the bytes saved; zeros stand in for the others.
 fn number_read(x: &[u8]) -> Called {
     let mut value = UNTOUCHED;
-    let c = counting(|count| yuthpram::yuthpram_number_read(x, &mut value, count));
+    let mut saved = UNTOUCHED as usize;
+    let c = counting(|count| yuthpram::yuthpram_number_read(x, &mut value, count, &mut saved));
+    let saved = saved as u64;
     Called {
         code: c.code,
         number: c.number,
-        value: (value != UNTOUCHED).then_some(value),
+        values: (value != UNTOUCHED || saved != UNTOUCHED).then_some([value, saved, 0, 0, 0]),
+    }
+}
+
+fn reported(side: u8, x: &[u8]) -> Called {
+    let untouched = UNTOUCHED as usize;
+    let mut counts = Counts {
+        tidied: untouched,
+        skipped: untouched,
+        restated: untouched,
+        saved: untouched,
+        named: untouched,
+    };
+    let code = yuthpram::yuthpram_report(side, x, &mut counts);
+    let values = [
+        counts.tidied as u64,
+        counts.skipped as u64,
+        counts.restated as u64,
+        counts.saved as u64,
+        counts.named as u64,
+    ];
+    Called {
+        code,
+        number: Some(0),
+        values: (values != [UNTOUCHED; 5]).then_some(values),
     }
 }
 
@@ -131,7 +159,7 @@ fn order_fault(x: &[u8]) -> Called {
     Called {
         code,
         number: stored(code != 0, position as u64),
-        value: None,
+        values: None,
     }
 }
 
@@ -209,6 +237,7 @@ fn call(operation: Operation, i: Input<'_>, out: &mut [u8]) -> Option<Called> {
         Operation::Length => counting(|n| yuthpram::yuthpram_length(i.x, n)),
         Operation::OrderFault => order_fault(i.x),
         Operation::Authentication => plain(authenticate_cids(side, i)),
+        Operation::Report => reported(side, i.x),
     };
     Some(called)
 }
@@ -231,7 +260,18 @@ fn holds(out: &[u8; MOST], due: &[u8]) -> bool {
     out.starts_with(due) && out.iter().skip(due.len()).all(|b| *b == FILL)
 }
 
-// The value of number_read stands where other operations have the bytes due.
+// Five numbers of eight bytes each; 0 where there are none.
+fn eights(b: &[u8]) -> [u64; 5] {
+    [
+        eight(b, 0),
+        eight(b, 8),
+        eight(b, 16),
+        eight(b, 24),
+        eight(b, 32),
+    ]
+}
+
+// What number_read and report store stands where other operations have the bytes due.
 fn agrees(h: Head, body: &[u8]) -> bool {
     let mut out = [FILL; MOST];
     let Some(c) = answer_of(h, body, &mut out) else {
@@ -239,10 +279,11 @@ fn agrees(h: Head, body: &[u8]) -> bool {
     };
     let due = part(body, h.w, h.due);
     let numbers = c.code == h.code && c.number == Some(h.number_due);
-    if h.operation == Operation::NumberRead && h.code == 0 {
-        return numbers && c.value == Some(eight(due, 0)) && holds(&out, b"");
+    let has_values = h.operation == Operation::NumberRead || h.operation == Operation::Report;
+    if has_values && h.code == 0 {
+        return numbers && c.values == Some(eights(due)) && holds(&out, b"");
     }
-    numbers && c.value.is_none() && holds(&out, due)
+    numbers && c.values.is_none() && holds(&out, due)
 }
 
 // How many entries of an operation there were, and how many of them differ.

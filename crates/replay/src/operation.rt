@@ -21,10 +21,11 @@ pub enum Operation {
     Length,
     OrderFault,
     Authentication,
+    Report,
 }
 
 // All of them, each at its number: an array and no TryFrom, since the tallies are printed in its order.
-pub const OPERATIONS: [Operation; 18] = [
+pub const OPERATIONS: [Operation; 19] = [
     Operation::NumberSize,
     Operation::NumberRead,
     Operation::NumberWrite,
@@ -43,6 +44,7 @@ pub const OPERATIONS: [Operation; 18] = [
     Operation::Length,
     Operation::OrderFault,
     Operation::Authentication,
+    Operation::Report,
 ];
 
 impl fmt::Display for Operation {
@@ -66,6 +68,7 @@ impl fmt::Display for Operation {
             Operation::Length => "length",
             Operation::OrderFault => "order_fault",
             Operation::Authentication => "authentication",
+            Operation::Report => "report",
         })
     }
 }

@@ -11,19 +11,21 @@ use lib.Seq.{take_all, length-take-le}
 use lib.Dec.{eqb, leb, ltb, leb-zero}
 use borrow.Author.Tests.{le-leb, lt-leb, eq-eqb, ne_eqb, eqb-true, eqb-false, leb-true, leb-false, ltb-true, ltb-false}
 use mir.Val.{bool_byte}
-use Rattle.refusal.specs.Outcome.{Result, accepted, refused, pick, all}
+use Rattle.refusal.specs.Outcome.{Result, accepted, refused, Outcome, pick, all}
 use Rattle.refusal.proofs.Laws.{all_at}
 use Rattle.varint.specs.Number.{read_number, read_wide}
+use Rattle.varint.specs.declared.Decoded.{Decoded}
 use Rattle.varint.proofs.Laws.{read_take}
 use Rattle.marks.specs.Mark.{marked}
 use Rattle.words.specs.Words.{zeros}
 use Rattle.catalogue.specs.Catalogue.{Kind, number, flag, cid, token, address, reserved, other_kinds, kinds, kind_at, fills, fits, illegal, id_length}
 use Rattle.std.proofs.lemmas.Bool.{agree_below_at}
-use Rattle.record.specs.Values.{value}
 use Rattle.front.specs.declared.Fault.{Fault}
 use Rattle.front.specs.declared.Fault.TheVariants.{SecondCopy, Misfit, Illegal}
+use Rattle.record.specs.Values.{value}
 use Rattle.value.specs.Answer.{judged}
-use Rattle.value.specs.Value.{is_simple, kept_of, check_kind, check_value, receive_value}
+use Rattle.value.specs.declared.Held.{Held}
+use Rattle.value.specs.Value.{is_simple, stands, holds, held_of, check_kind, check_value, receive_value}
 
 -- A VALUE OF A KIND. Numbers
 module _ (a : ℕ) (v : List ℕ) where
@@ -31,20 +33,20 @@ module _ (a : ℕ) (v : List ℕ) where
   unfolding check_kind illegal fits
   number_unread e k = rw k
 
-  pub number_read_lem : (x n : ℕ) → read_number v ≡ accepted (x, n) → judged (eqb n (length v)) x ≡ check_kind number a v
-  unfolding check_kind illegal fits kept_of
-  number_read_lem x n k = rw k
+  pub number_read_lem : (x : Decoded) → read_number v ≡ accepted x → judged (eqb x.count (length v)) (record { kept = x.value; saved = x.saved }) ≡ check_kind number a v
+  unfolding check_kind illegal fits held_of
+  number_read_lem x k = rw k
 
   -- flags, IDs and the token
-  pub by_length : (k : Kind) (t : Bool) → illegal k v ≡ false → kept_of k a v ≡ a → t ≡ fits k v → pick t (accepted a) (refused Misfit) ≡ check_kind k a v
+  pub by_length : (k : Kind) (t : Bool) → illegal k v ≡ false → held_of k a v ≡ stands a → t ≡ fits k v → judged t (stands a) ≡ check_kind k a v
   unfolding check_kind
   by_length k t i n e = rw (i, n, e)
 
   -- addresses
   address_open : check_kind address a v
       ≡ pick (all (leb 25 (length v) ∷ leb (id_length v) 20 ∷ leb (41 + id_length v) (length v) ∷ zeros (take 24 v) ∷ [])) (refused Illegal)
-      (pick (all (leb 41 (length v) ∷ leb (id_length v) 20 ∷ eqb (length v) (41 + id_length v) ∷ [])) (accepted a) (refused Misfit))
-  unfolding check_kind illegal fits kept_of
+      (pick (all (leb 41 (length v) ∷ leb (id_length v) 20 ∷ eqb (length v) (41 + id_length v) ∷ [])) (accepted (stands a)) (refused Misfit))
+  unfolding check_kind illegal fits held_of
   address_open = refl
 
   pub address_none : length v < 25 → refused Misfit ≡ check_kind address a v
@@ -56,7 +58,7 @@ module _ (a : ℕ) (v : List ℕ) where
     unfolding all
     address_id h = rw (address_open, le-leb 25 _ some, lt-leb _ 20 h) (go (leb 41 (length v)))
       where
-        go : (t : Bool) → refused Misfit ≡ pick {A = Result Fault ℕ} (t && false) (accepted a) (refused Misfit)
+        go : (t : Bool) → refused Misfit ≡ pick {A = Result Fault Held} (t && false) (accepted (stands a)) (refused Misfit)
         go true = refl
         go false = refl
 
@@ -66,7 +68,7 @@ module _ (a : ℕ) (v : List ℕ) where
       address_short h =
           rw (address_open, le-leb 25 _ some, le-leb _ 20 small, lt-leb (41 + id_length v) _ h, ne_eqb (length v) (41 + id_length v) (omega arith)) (go (leb 41 (length v)))
         where
-          go : (t : Bool) → refused Misfit ≡ pick {A = Result Fault ℕ} (t && false) (accepted a) (refused Misfit)
+          go : (t : Bool) → refused Misfit ≡ pick {A = Result Fault Held} (t && false) (accepted (stands a)) (refused Misfit)
           go true = refl
           go false = refl
 
@@ -75,14 +77,14 @@ module _ (a : ℕ) (v : List ℕ) where
         unfolding all
         address_illegal z = rw (address_open, le-leb 25 _ some, le-leb _ 20 small, le-leb (41 + id_length v) _ long, z)
 
-        pub address_judged : zeros (take 24 v) ≡ false → pick (eqb (length v) (41 + id_length v)) (accepted a) (refused Misfit) ≡ check_kind address a v
+        pub address_judged : zeros (take 24 v) ≡ false → pick (eqb (length v) (41 + id_length v)) (accepted (stands a)) (refused Misfit) ≡ check_kind address a v
         unfolding all
         address_judged z =
             let full : 41 ≤ length v = omega arith in
             rw (address_open, le-leb 25 _ some, le-leb _ 20 small, le-leb (41 + id_length v) _ long, z, le-leb 41 _ full)
             (go (eqb (length v) (41 + id_length v)))
           where
-            go : (t : Bool) → pick {A = Result Fault ℕ} t (accepted a) (refused Misfit) ≡ pick (t && true) (accepted a) (refused Misfit)
+            go : (t : Bool) → pick {A = Result Fault Held} t (accepted (stands a)) (refused Misfit) ≡ pick (t && true) (accepted (stands a)) (refused Misfit)
             go true = refl
             go false = refl
 
@@ -206,32 +208,33 @@ exactly n l = go (leb n l) refl (leb l (n + 0)) refl
     go true e false f = sym (ne_eqb l n (omega (arith, leb-false l (n + 0) f)))
     go false e t f = sym (ne_eqb l n (omega (arith, leb-false n l e)))
 
-module _ (a len x n : ℕ) (rest : List ℕ) (room : 8 ≤ length rest) (within : len ≤ length rest) (e : accepted (x, n) ≡ read_wide rest) where
+module _ (a len : ℕ) (x : Decoded) (rest : List ℕ) (room : 8 ≤ length rest) (within : len ≤ length rest) (e : accepted x ≡ read_wide rest) where
   long : length (take len rest) ≡ len
   long = length-take-le len rest within
 
-  read : read_number rest ≡ accepted (x, n)
+  read : read_number rest ≡ accepted x
   read = sym (rw (le-leb 8 (length rest) room) at e)
 
-  number_wide : judged (leb n len && leb len (n + 0)) x ≡ check_kind number a (take len rest)
-  unfolding check_kind illegal fits kept_of
-  number_wide = rw (read_take len rest x n read, long, exactly n len) (go (leb n len) refl (eqb len n) refl)
+  number_wide : judged (leb x.count len && leb len (x.count + 0)) (record { kept = x.value; saved = x.saved }) ≡ check_kind number a (take len rest)
+  unfolding check_kind illegal fits held_of
+  number_wide = rw (read_take len rest x read, long, exactly x.count len) (go (leb x.count len) refl (eqb len x.count) refl)
     where
-      go : (s : Bool) → leb n len ≡ s → (t : Bool) → eqb len n ≡ t
-          → judged t x ≡ pick {A = Result Fault ℕ} (fills len (pick s (accepted (x, n)) (refused 3))) (accepted (value (pick s (accepted (x, n)) (refused 3)))) (refused Misfit)
-      go true p true q = rw (eq-eqb n len (sym (eqb-true len n q)))
-      go true p false q = rw (ne_eqb n len (λ k. eqb-false len n q (sym k)))
-      go false p true q = absurd (omega (arith, leb-false n len p, eqb-true len n q))
+      go : (s : Bool) → leb x.count len ≡ s → (t : Bool) → eqb len x.count ≡ t
+          → judged t (record { kept = x.value; saved = x.saved }) ≡ pick {A = Result Fault Held} (fills len (pick s (accepted x) (refused 3))) (accepted (holds (pick s (accepted x) (refused 3)))) (refused Misfit)
+      go true p true q = rw (eq-eqb x.count len (sym (eqb-true len x.count q)))
+      go true p false q = rw (ne_eqb x.count len (λ k. eqb-false len x.count q (sym k)))
+      go false p true q = absurd (omega (arith, leb-false x.count len p, eqb-true len x.count q))
       go false p false q = refl
 
-  pub wide : (p i j t : ℕ) (b : Bool) (o : Result Fault ℕ) → is_simple (kind_at p) ≡ true → i ≡ bool_byte (marked 0x1047ff p) → j ≡ bool_byte (marked 0x70000 p) → t ≡ bool_byte (eqb p 12)
-      → b ≡ (leb (get_or (16 * t ∷ n ∷ []) i 0) len && leb len (get_or (16 * t ∷ n ∷ []) i 0 + 20 * j)) → o ≡ judged b (get_or (a ∷ x ∷ []) i 0) → o ≡ check_value p a (take len rest)
-  unfolding illegal fits kept_of
+  pub wide : (p i j t : ℕ) (b : Bool) (o : Result Fault Held) → is_simple (kind_at p) ≡ true → i ≡ bool_byte (marked 0x1047ff p) → j ≡ bool_byte (marked 0x70000 p) → t ≡ bool_byte (eqb p 12)
+      → b ≡ (leb (get_or (16 * t ∷ x.count ∷ []) i 0) len && leb len (get_or (16 * t ∷ x.count ∷ []) i 0 + 20 * j))
+      → o ≡ judged b (record { kept = get_or (a ∷ x.value ∷ []) i 0; saved = get_or (0 ∷ x.saved ∷ []) i 0 }) → o ≡ check_value p a (take len rest)
+  unfolding illegal fits held_of
   wide p i j t b o s ei ej et eb eo = eo ∙ rw (eb, ei, ej, et, number_told p, cid_told p, token_told p) (go (kind_at p) s)
     where
       go : (k : Kind) → is_simple k ≡ true
-          → judged (leb (get_or (16 * bool_byte (is token k) ∷ n ∷ []) (bool_byte (is number k)) 0) len && leb len (get_or (16 * bool_byte (is token k) ∷ n ∷ []) (bool_byte (is number k)) 0 + 20 * bool_byte (is cid k)))
-          (get_or (a ∷ x ∷ []) (bool_byte (is number k)) 0) ≡ check_kind k a (take len rest)
+          → judged (leb (get_or (16 * bool_byte (is token k) ∷ x.count ∷ []) (bool_byte (is number k)) 0) len && leb len (get_or (16 * bool_byte (is token k) ∷ x.count ∷ []) (bool_byte (is number k)) 0 + 20 * bool_byte (is cid k)))
+          (record { kept = get_or (a ∷ x.value ∷ []) (bool_byte (is number k)) 0; saved = get_or (0 ∷ x.saved ∷ []) (bool_byte (is number k)) 0 }) ≡ check_kind k a (take len rest)
       go number s = number_wide
       go flag s = by_length a (take len rest) flag (leb 0 len && leb len 0) refl refl (exactly 0 len ∙ rw long)
       go cid s = by_length a (take len rest) cid (leb 0 len && leb len 20) refl refl (rw (long, leb-zero len))
@@ -240,7 +243,7 @@ module _ (a len x n : ℕ) (rest : List ℕ) (room : 8 ≤ length rest) (within 
       go reserved s = cc
 
 -- A VALUE FOR A PLACE
-pub for_place : (p : ℕ) (k : Kind) (a : ℕ) (v : List ℕ) (o : Result Fault ℕ) → kind_at p ≡ k → o ≡ check_kind k a v → o ≡ check_value p a v
+pub for_place : (p : ℕ) (k : Kind) (a : ℕ) (v : List ℕ) (o : Result Fault Held) → kind_at p ≡ k → o ≡ check_kind k a v → o ≡ check_value p a v
 for_place p k a v o e h = rw e h
 
 -- no more than there is
@@ -248,21 +251,26 @@ pub all_there : (p a n : ℕ) (v : List ℕ) → length v < n → check_value p 
 all_there p a n v h = ap (check_value p a) (take_all n v (omega arith))
 
 -- WHAT A VALUE THAT WAS RECEIVED IS
-pub record Taken (p a : ℕ) (v : List ℕ) (x : ℕ) : Type 0 where
+pub record Taken (p a : ℕ) (v : List ℕ) (x : Held) : Type 0 where
   pub fit : fits (kind_at p) v ≡ true
-  pub is : x ≡ kept_of (kind_at p) a v
+  pub is : x ≡ held_of (kind_at p) a v
 
-pub taken : (met : Bool) (p a : ℕ) (v : List ℕ) (x : ℕ) → accepted x ≡ receive_value met p a v → Taken p a v x
+pub taken : (met : Bool) (p a : ℕ) (v : List ℕ) (x : Held) → accepted x ≡ receive_value met p a v → Taken p a v x
 unfolding receive_value check_kind
 taken met p a v x e = go met (illegal (kind_at p) v) (fits (kind_at p) v) refl e
   where
     go : (s i f : Bool) → fits (kind_at p) v ≡ f
-        → accepted x ≡ pick {A = Result Fault ℕ} s (refused SecondCopy) (pick i (refused Illegal) (pick f (accepted (kept_of (kind_at p) a v)) (refused Misfit)))
+        → accepted x ≡ pick {A = Result Fault Held} s (refused SecondCopy) (pick i (refused Illegal) (pick f (accepted (held_of (kind_at p) a v)) (refused Misfit)))
         → Taken p a v x
     go false false true h e = record { fit = h; is = cc }
     go false false false h e = cc
     go false true f h e = cc
     go true i f h e = cc
+
+-- the number that was read of it
+pub kept_number : (o : Outcome Decoded) → (holds o).kept ≡ value o
+kept_number (accepted a) = refl
+kept_number (refused e) = refl
 
 -- no other value that fits is longer than 61 bytes
 pub short : (k : Kind) (v : List ℕ) → (k ≡ number → ⊥) → fits k v ≡ true → length v ≤ 61

@@ -1,8 +1,9 @@
 -- What a test decides of a value.
-use Rattle.std.specs.Prelude.{ℕ, Bool}
+use Rattle.std.specs.Prelude.{Bool}
 use Rattle.refusal.specs.Outcome.{Result, accepted, refused, pick}
 use Rattle.front.specs.declared.Fault.{Fault}
 use Rattle.front.specs.declared.Fault.TheVariants.{Misfit}
+use Rattle.value.specs.declared.Held.{Held}
 
-abbrev pub judged : Bool → ℕ → Result Fault ℕ
+abbrev pub judged : Bool → Held → Result Fault Held
 judged t a = pick t (accepted a) (refused Misfit)

@@ -4,7 +4,7 @@
 
 ghost use Rattle.std.specs.Prelude.{◌≡◌, true, ◌≤◌, ◌<◌, length, take};
 ghost use Rattle.catalogue.specs.Catalogue.{number, address, kind_at};
-ghost use Rattle.value.specs.Value.{is_simple, check_kind, check_value, receive_value};
+ghost use Rattle.value.specs.Value.{is_simple, stands, check_kind, check_value, receive_value};
 ghost use Rattle.front.specs.Answer.{fault_outcome};
 ghost use Rattle.value.specs.Answer.{judged};
 
@@ -18,20 +18,41 @@ use record::ResetToken;
 use varint::VarInt;
 use words::all_zero;
 
+// What is kept of a value: the number that it holds, or where it starts; and how many bytes the shortest form of the number would have saved.
+#[derive(Clone, Copy, Debug, PartialEq, Eq)]
+pub struct Held {
+    pub kept: u64,
+    pub saved: usize,
+}
+
+// Of a value that holds no number.
+fn stands(start: usize) -> Held
+    ensures { result ≡ stands start }
+{
+    Held {
+        kept: start as u64,
+        saved: 0,
+    }
+}
+
 // A number that uses exactly its bytes.
 #[tactic(auto, using(crate::proofs::Checks::number_unread, crate::proofs::Checks::number_read_lem))]
-fn check_number(start: usize, v: &[u8]) -> Result<u64, Fault>
+fn check_number(start: usize, v: &[u8]) -> Result<Held, Fault>
     ensures { fault_outcome result ≡ check_kind number start v.now }
 {
-    let Ok((x, n)) = VarInt::decode(v) else {
+    let Ok(x) = VarInt::decode(v) else {
         return Err(Fault::Misfit);
     };
-    fits_if(n == v.len(), x)
+    let held = Held {
+        kept: x.value,
+        saved: x.saved,
+    };
+    fits_if(x.count == v.len(), held)
 }
 
 // A preferred address: both families absent is found before leftover bytes.
 #[tactic(auto, using(crate::proofs::Checks::address_none, crate::proofs::Checks::address_id, crate::proofs::Checks::address_short))]
-fn check_address(start: usize, v: &[u8]) -> Result<u64, Fault>
+fn check_address(start: usize, v: &[u8]) -> Result<Held, Fault>
     ensures { fault_outcome result ≡ check_kind address start v.now }
 {
     if v.len() < 25 {
@@ -48,31 +69,32 @@ fn check_address(start: usize, v: &[u8]) -> Result<u64, Fault>
     if all_zero(&v[..24]) {
         return Err(Fault::Illegal);
     }
-    fits_if(v.len() == end, start as u64)
+    fits_if(v.len() == end, stands(start))
 }
 
-fn fits_if(test: bool, kept: u64) -> Result<u64, Fault>
-    ensures { fault_outcome result ≡ judged test kept }
+fn fits_if(test: bool, held: Held) -> Result<Held, Fault>
+    ensures { fault_outcome result ≡ judged test held }
 {
-    test.then_some(kept).ok_or(Fault::Misfit)
+    test.then_some(held).ok_or(Fault::Misfit)
 }
 
 // A value for a place: there is none for the reserved parameter's place, nor beyond the last. The kinds are told by masks, as in `check_wide`: an enum of
 // kinds would be a second table of the same.
-fn check_narrow(place: usize, start: usize, v: &[u8]) -> Result<u64, Fault>
+#[inline(always)]
+fn check_narrow(place: usize, start: usize, v: &[u8]) -> Result<Held, Fault>
     ensures { fault_outcome result ≡ check_value place start v.now }
 {
     if is_marked(NUMBER_PLACES, place) {
         return check_number(start, v);
     }
     if is_marked(CID_PLACES, place) {
-        return fits_if(v.len() <= ConnectionId::MAX_SIZE, start as u64);
+        return fits_if(v.len() <= ConnectionId::MAX_SIZE, stands(start));
     }
     if is_marked(FLAG_PLACES, place) {
-        return fits_if(v.is_empty(), start as u64);
+        return fits_if(v.is_empty(), stands(start));
     }
     if place == STATELESS_RESET_TOKEN {
-        return fits_if(v.len() == ResetToken::SIZE, start as u64);
+        return fits_if(v.len() == ResetToken::SIZE, stands(start));
     }
     if place == PREFERRED_ADDRESS {
         return check_address(start, v);
@@ -92,7 +114,7 @@ pub struct Received<'a> {
 impl<'a> Received<'a> {
     // For a simple place: a number is as long as it says, a token 16, a connection ID up to 20, a flag none. Parameters come in any order, so there
     // is no branch on the kind: what depends on it is taken from arrays of two, by a test as 0 or 1.
-    fn check_wide(self) -> Result<u64, Fault>
+    fn check_wide(self) -> Result<Held, Fault>
         requires { (8 ≤ length self.rest.now) × (self.len ≤ length self.rest.now) × (is_simple (kind_at self.place) ≡ true) }
         ensures { fault_outcome result ≡ check_value self.entry.place self.entry.start (take self.entry.len self.entry.rest.now) }
     {
@@ -102,19 +124,24 @@ impl<'a> Received<'a> {
             len,
             rest,
         } = self;
-        let (x, n) = VarInt::decode_wide(rest);
+        let x = VarInt::decode_wide(rest);
         let is_number = usize::from(is_marked(NUMBER_PLACES, place));
         let is_cid = usize::from(is_marked(CID_PLACES, place));
         let is_token = usize::from(place == STATELESS_RESET_TOKEN);
-        let least = [ResetToken::SIZE * is_token, n];
-        let kept = [start as u64, x];
+        let least = [ResetToken::SIZE * is_token, x.count];
+        let kept = [start as u64, x.value];
+        let saved = [0, x.saved];
+        let held = Held {
+            kept: kept[is_number],
+            saved: saved[is_number],
+        };
         let shortest = least[is_number];
         let longest = shortest + ConnectionId::MAX_SIZE * is_cid;
-        fits_if((shortest <= len) & (len <= longest), kept[is_number])
+        fits_if((shortest <= len) & (len <= longest), held)
     }
 
     #[tactic(auto, using(crate::proofs::Checks::simple_told, crate::proofs::Checks::all_there))]
-    fn check(self) -> Result<u64, Fault>
+    fn check<const COUNTED: bool>(self) -> Result<Held, Fault>
         ensures { fault_outcome result ≡ check_value self.entry.place self.entry.start (take self.entry.len self.entry.rest.now) }
     {
         let Received {
@@ -132,14 +159,14 @@ impl<'a> Received<'a> {
         check_narrow(place, start, &rest[..len])
     }
 
-    // What is kept of it; the place was met before or not.
+    // What is kept of it; the place was met before or not. `COUNTED` changes nothing that is given: reading and the report have a copy each.
     #[tactic(auto, unfolding(crate::specs::Value::receive_value))]
-    pub fn receive(self, met: bool) -> Result<u64, Fault>
+    pub fn receive<const COUNTED: bool>(self, met: bool) -> Result<Held, Fault>
         ensures { fault_outcome result ≡ receive_value met self.entry.place self.entry.start (take self.entry.len self.entry.rest.now) }
     {
         if met {
             return Err(Fault::SecondCopy);
         }
-        self.check()
+        self.check::<COUNTED>()
     }
 }

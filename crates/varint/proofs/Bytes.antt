@@ -10,11 +10,12 @@ use Rattle.std.proofs.Common.{append-nil}
 use Rattle.std.proofs.lemmas.List.{take-replicate}
 use Rattle.std.specs.Int.{w64, from_be_bytes}
 use lib.Dec.{leb}
+use lib.Pow.{pow_mono}
 use lib.Bits.{bit_or, bit_and, or_shifted, and_mask}
 use borrow.Author.Tests.{ltb-true, ltb-false, lt-ltb, le-ltb, le-leb, lt-leb}
 use Rattle.refusal.specs.Outcome.{accepted, refused, pick, front}
 use Rattle.refusal.proofs.Laws.{pick_cases}
-use Rattle.varint.specs.Number.{tag_of, form, number_bytes, read_number}
+use Rattle.varint.specs.Number.{tag_of, form, number_bytes, with_saved, read_number}
 use Rattle.words.specs.Words.{value_from, bytes_of}
 use Rattle.words.proofs.Big.{length_bytes_of, bytes_above, gathered, value_gathered}
 
@@ -61,6 +62,21 @@ pub length_form : (k v : ℕ) → k ≤ 3 → length (form k v) ≡ 2 ^ k
 unfolding form
 length_form k v h = let r = width_range k h in rw length_bytes_of (omega arith)
 
+-- a number that a form of k's size has room for
+pub no_longer : (v k : ℕ) → k ≤ 3 → v < 64 * 256 ^ (2 ^ k - 1) → length (number_bytes v) ≤ 2 ^ k
+no_longer v k hk h = rw (length_form (tag_of v) v (tag_le v)) (pow_mono (tag_least v k hk h))
+
+-- the bits that a form of n bytes leaves, as its first byte says
+pub bits_room : (s : List ℕ) (n v : ℕ) → ((i : ℕ) → get_or s i 0 < 256) → n ≡ 2 ^ (get_or s 0 0 / 64) → length (number_bytes (bit_and v ((2 ^ 62 - 1) / 2 ^ (64 - 8 * n)))) ≤ n
+bits_room s n v hs e =
+    let k : get_or s 0 0 / 64 ≤ 3 = omega (arith, hs 0) in
+    rw e
+    (four (get_or s 0 0 / 64) (λ k. length (number_bytes (bit_and v ((2 ^ 62 - 1) / 2 ^ (64 - 8 * 2 ^ k)))) ≤ 2 ^ k) k
+    (no_longer _ 0 (omega arith) (omega (arith, and_mask v 6)))
+    (no_longer _ 1 (omega arith) (omega (arith, and_mask v 14)))
+    (no_longer _ 2 (omega arith) (omega (arith, and_mask v 30)))
+    (no_longer _ 3 (omega arith) (omega (arith, and_mask v 62))))
+
 pub read_none : (s : List ℕ) → length s ≡ 0 → refused 3 ≡ read_number s
 unfolding read_number
 read_none [] h = refl
@@ -68,34 +84,34 @@ read_none (b ∷ s) h = absurd (omega arith)
 
 -- what stands in bytes whose first has the tag k
 module _ (s : List ℕ) (k : ℕ) (h : 0 < length s) (e : k ≡ get_or s 0 0 / 64) where
-  read_some : read_number s ≡ pick (leb (2 ^ k) (length s)) (accepted (value_from (get_or s 0 0 % 64) (take (2 ^ k - 1) (drop 1 s)), 2 ^ k)) (refused 3)
+  read_some : read_number s ≡ pick (leb (2 ^ k) (length s)) (accepted (with_saved (value_from (get_or s 0 0 % 64) (take (2 ^ k - 1) (drop 1 s))) (2 ^ k))) (refused 3)
   unfolding read_number
   read_some = rw e (go s h)
     where
       go : (s : List ℕ) → 0 < length s → read_number s ≡ pick (leb (2 ^ (get_or s 0 0 / 64)) (length s))
-          (accepted (value_from (get_or s 0 0 % 64) (take (2 ^ (get_or s 0 0 / 64) - 1) (drop 1 s)), 2 ^ (get_or s 0 0 / 64))) (refused 3)
+          (accepted (with_saved (value_from (get_or s 0 0 % 64) (take (2 ^ (get_or s 0 0 / 64) - 1) (drop 1 s))) (2 ^ (get_or s 0 0 / 64)))) (refused 3)
       go [] h = absurd (omega arith)
       go (b ∷ s) h = refl
 
   pub read_short : length s < 2 ^ k → refused 3 ≡ read_number s
   read_short l = sym (rw (lt-leb (2 ^ k) (length s) l) at read_some)
 
-  pub read_whole : 2 ^ k ≤ length s → (n : ℕ) → 2 ^ k ≡ suc n → read_number s ≡ accepted (gathered n 1 (get_or s 0 0 % 64) s, suc n)
+  pub read_whole : 2 ^ k ≤ length s → (n : ℕ) → 2 ^ k ≡ suc n → read_number s ≡ accepted (with_saved (gathered n 1 (get_or s 0 0 % 64) s) (suc n))
   read_whole l n q =
       let m : 2 ^ k - 1 ≡ n = omega arith in
       rw (le-leb (2 ^ k) (length s) l, m, q) at read_some
-      ∙ ap (λ v. accepted (v, suc n)) (value_gathered n 1 (get_or s 0 0 % 64) s (omega arith))
+      ∙ ap (λ v. accepted (with_saved v (suc n))) (value_gathered n 1 (get_or s 0 0 % 64) s (omega arith))
 
 -- a form of k's size, and the bytes of a word of which it is the low end
 module _ (s : List ℕ) (hs : (i : ℕ) → get_or s i 0 < 256) (h : 0 < length s) where
   pub read_sized : (k v : ℕ) → k ≤ 3 → k ≡ get_or s 0 0 / 64 → 2 ^ k ≤ length s → v ≡ value_from 0 (take (2 ^ k) s)
-      → accepted (bit_and v ((2 ^ 62 - 1) / 2 ^ (64 - 8 * 2 ^ k)), 2 ^ k) ≡ read_number s
+      → accepted (with_saved (bit_and v ((2 ^ 62 - 1) / 2 ^ (64 - 8 * 2 ^ k))) (2 ^ k)) ≡ read_number s
   read_sized k v hk =
-      four k (λ k. k ≡ get_or s 0 0 / 64 → 2 ^ k ≤ length s → v ≡ value_from 0 (take (2 ^ k) s) → accepted (bit_and v ((2 ^ 62 - 1) / 2 ^ (64 - 8 * 2 ^ k)), 2 ^ k) ≡ read_number s) hk
-      (λ e l q. ap (λ x. accepted (x, 1)) (omega (arith, q, value_gathered 1 0 0 s l, and_mask v 6)) ∙ sym (read_whole s 0 h e l 0 refl))
-      (λ e l q. ap (λ x. accepted (x, 2)) (omega (arith, q, value_gathered 2 0 0 s l, and_mask v 14, hs 0, hs 1)) ∙ sym (read_whole s 1 h e l 1 refl))
-      (λ e l q. ap (λ x. accepted (x, 4)) (omega (arith, q, value_gathered 4 0 0 s l, and_mask v 30, hs 0, hs 1, hs 2, hs 3)) ∙ sym (read_whole s 2 h e l 3 refl))
-      (λ e l q. ap (λ x. accepted (x, 8)) (omega (arith, q, value_gathered 8 0 0 s l, and_mask v 62, hs 0, hs 1, hs 2, hs 3, hs 4, hs 5, hs 6, hs 7)) ∙ sym (read_whole s 3 h e l 7 refl))
+      four k (λ k. k ≡ get_or s 0 0 / 64 → 2 ^ k ≤ length s → v ≡ value_from 0 (take (2 ^ k) s) → accepted (with_saved (bit_and v ((2 ^ 62 - 1) / 2 ^ (64 - 8 * 2 ^ k))) (2 ^ k)) ≡ read_number s) hk
+      (λ e l q. ap (λ x. accepted (with_saved x 1)) (omega (arith, q, value_gathered 1 0 0 s l, and_mask v 6)) ∙ sym (read_whole s 0 h e l 0 refl))
+      (λ e l q. ap (λ x. accepted (with_saved x 2)) (omega (arith, q, value_gathered 2 0 0 s l, and_mask v 14, hs 0, hs 1)) ∙ sym (read_whole s 1 h e l 1 refl))
+      (λ e l q. ap (λ x. accepted (with_saved x 4)) (omega (arith, q, value_gathered 4 0 0 s l, and_mask v 30, hs 0, hs 1, hs 2, hs 3)) ∙ sym (read_whole s 2 h e l 3 refl))
+      (λ e l q. ap (λ x. accepted (with_saved x 8)) (omega (arith, q, value_gathered 8 0 0 s l, and_mask v 62, hs 0, hs 1, hs 2, hs 3, hs 4, hs 5, hs 6, hs 7)) ∙ sym (read_whole s 3 h e l 7 refl))
 
 value_zeros : (n : ℕ) (l : List ℕ) → value_from 0 (replicate n 0 ++ l) ≡ value_from 0 l
 value_zeros zero l = refl
@@ -177,3 +193,7 @@ size_4 v l h = size_at_lem v 2 (tag_2 v l h)
 
 pub size_8 : (v : ℕ) → 1073741824 ≤ v → length (number_bytes v) ≡ 8
 size_8 v l = size_at_lem v 3 (tag_3 v l)
+
+-- a number of one byte has no shorter form
+pub one_saved : (v : ℕ) → v < 64 → with_saved v 1 ≡ record { value = v; count = 1; saved = 0 }
+one_saved v h = rw (size_1 v h)

@@ -3,9 +3,10 @@
 --     number_append         more bytes change nothing
 --     read_take             nor do fewer, as long as the number is there
 --     read_bounds           what is read is below 2 ^ 62, lies within the bytes, and is no shorter than the shortest form
+--     read_saved, read_count   what its shortest form would have saved
 --     write_refused, write_sized     what a number's size says of writing it
-use Prim.Native.Nat.{ℕ, zero, suc, ◌-◌, ◌*◌, ◌/◌, ◌%◌, ◌^◌, ◌≤◌, ◌<◌}
-use mathlib.Core.Path.{◌≡◌, refl, ap, sym}
+use Prim.Native.Nat.{ℕ, zero, suc, ◌+◌, ◌-◌, ◌*◌, ◌/◌, ◌%◌, ◌^◌, ◌≤◌, ◌<◌}
+use mathlib.Core.Path.{◌≡◌, refl, ap, sym, ◌∙◌, subst}
 use mathlib.Core.List.{List, [], ◌∷◌, ◌++◌}
 use mathlib.Core.Bool.{Bool, true, false}
 use native.Mathlib.Nat.{div-add-mod', one-le-pow}
@@ -16,7 +17,8 @@ use lib.Pow.{pow_mono, pow_pos}
 use lib.Arith.{digits_div, digits_mod}
 use lib.Dec.{leb, ltb}
 use borrow.Author.Tests.{le-leb, lt-leb, leb-true, leb-false, ltb-true}
-use Rattle.varint.specs.Number.{bound, tag_of, form, number_bytes, read_number, write_number, size_number}
+use Rattle.varint.specs.Number.{bound, tag_of, form, number_bytes, with_saved, read_number, write_number, size_number}
+use Rattle.varint.specs.declared.Decoded.{Decoded}
 use Rattle.words.specs.Words.{value_from, bytes_of}
 use Rattle.refusal.specs.Outcome.{Outcome, accepted, refused, pick, store}
 use Rattle.refusal.proofs.Laws.{picked}
@@ -26,7 +28,7 @@ use Rattle.std.proofs.lemmas.Nat.{div_below}
 use Rattle.words.proofs.Big.{length_bytes_of, value_bytes_of, value_lt}
 
 -- at every width that has room, longer than needed or not
-pub read_form : (k v : ℕ) (rest : List ℕ) → k ≤ 3 → v < 64 * 256 ^ (2 ^ k - 1) → read_number (form k v ++ rest) ≡ accepted (v, 2 ^ k)
+pub read_form : (k v : ℕ) (rest : List ℕ) → k ≤ 3 → v < 64 * 256 ^ (2 ^ k - 1) → read_number (form k v ++ rest) ≡ accepted (with_saved v (2 ^ k))
 unfolding read_number form
 read_form k v rest hk hv =
     let w = width_range k hk in
@@ -41,20 +43,27 @@ read_form k v rest hk hv =
       div-add-mod',
     )
 
-pub read_number_bytes : (v : ℕ) (rest : List ℕ) → v < 2 ^ 62 → read_number (number_bytes v ++ rest) ≡ accepted (v, length (number_bytes v))
-read_number_bytes v rest h = rw (length_form _ v (tag_le v)) (read_form (tag_of v) v rest (tag_le v) (tag_room v h))
+pub read_number_bytes : (v : ℕ) (rest : List ℕ) → v < 2 ^ 62 → read_number (number_bytes v ++ rest) ≡ accepted (with_saved v (length (number_bytes v)))
+read_number_bytes v rest h = read_form (tag_of v) v rest (tag_le v) (tag_room v h) ∙ ap (λ n. accepted (with_saved v n)) (sym (length_form (tag_of v) v (tag_le v)))
 
--- what is read has a byte at least, and lies within the bytes, whatever they are
-pub read_within : (bs : List ℕ) (v n : ℕ) → read_number bs ≡ accepted (v, n) → (1 ≤ n) × (n ≤ length bs)
+-- what is read has a byte at least, lies within the bytes, whatever they are, and saves no more than it has
+pub read_within : (bs : List ℕ) (a : Decoded) → read_number bs ≡ accepted a → (1 ≤ a.count) × (a.count ≤ length bs) × (a.saved ≤ a.count)
 unfolding read_number
-read_within [] v n e = cc
-read_within (b ∷ bs) v n e =
-    picked _ _ (v, n) 3 e λ t q.
+read_within [] a e = cc
+read_within (b ∷ bs) a e =
+    picked _ _ a 3 e λ t q.
     let l : 2 ^ (b / 64) ≤ suc (length bs) = leb-true _ _ t in
-    let j : 2 ^ (b / 64) ≡ n = ap (λ r. r.1) q in
-    omega (arith, pow_pos (b / 64))
+    let j : 2 ^ (b / 64) ≡ a.count = ap (λ r. r.count) q in
+    let k : a.saved ≤ a.count = subst (λ r. r.saved ≤ r.count) q (omega arith) in
+    (omega (arith, pow_pos (b / 64)), omega arith, k)
 
-pub number_append : (bs cs : List ℕ) (a : ℕ × ℕ) → read_number bs ≡ accepted a → read_number (bs ++ cs) ≡ accepted a
+-- it is settled by the number and its byte count
+pub read_saved : (bs : List ℕ) (a : Decoded) → read_number bs ≡ accepted a → a ≡ with_saved a.value a.count
+unfolding read_number
+read_saved [] a e = cc
+read_saved (b ∷ bs) a e = picked _ _ a 3 e λ t q. subst (λ r. r ≡ with_saved r.value r.count) q refl
+
+pub number_append : (bs cs : List ℕ) (a : Decoded) → read_number bs ≡ accepted a → read_number (bs ++ cs) ≡ accepted a
 unfolding read_number
 number_append [] cs a e = cc
 number_append (b ∷ bs) cs a e =
@@ -65,56 +74,62 @@ number_append (b ∷ bs) cs a e =
     rw (le-leb _ _ h', take-append-le _ bs cs k) (ap accepted q)
 
 -- of the first m bytes as of all, unless they are too few
-pub read_take : (m : ℕ) (s : List ℕ) (x n : ℕ) → read_number s ≡ accepted (x, n) → read_number (take m s) ≡ pick (leb n m) (accepted (x, n)) (refused 3)
+pub read_take : (m : ℕ) (s : List ℕ) (a : Decoded) → read_number s ≡ accepted a → read_number (take m s) ≡ pick (leb a.count m) (accepted a) (refused 3)
 unfolding read_number
-read_take zero s x n e = rw (lt-leb n 0 (read_within s x n e).0)
-read_take (suc m) [] x n e = cc
-read_take (suc m) (b ∷ bs) x n e =
-    picked _ _ (x, n) 3 e λ t q.
+read_take zero s a e = rw (lt-leb a.count 0 (read_within s a e).0)
+read_take (suc m) [] a e = cc
+read_take (suc m) (b ∷ bs) a e =
+    picked _ _ a 3 e λ t q.
     let h : 2 ^ (b / 64) ≤ suc (length bs) = leb-true _ _ t in
-    let l = length-take m bs in
-    let j : 2 ^ (b / 64) ≡ n = ap (λ r. r.1) q in
+    let j : 2 ^ (b / 64) ≡ a.count = ap (λ r. r.count) q in
     go (2 ^ (b / 64)) j h q
   where
-    go : (w : ℕ) → w ≡ n → w ≤ suc (length bs) → ◌≡◌ {A = ℕ × ℕ} (value_from (b % 64) (take (w - 1) bs), w) (x, n)
-        → pick {A = Outcome (ℕ × ℕ)} (leb w (suc (length (take m bs)))) (accepted (value_from (b % 64) (take (w - 1) (take m bs)), w)) (refused 3)
-        ≡ pick (leb n (suc m)) (accepted (x, n)) (refused 3)
-    go w j h q = on (leb n (suc m)) refl
+    go : (w : ℕ) → w ≡ a.count → w ≤ suc (length bs) → with_saved (value_from (b % 64) (take (w - 1) bs)) w ≡ a
+        → pick {A = Outcome Decoded} (leb w (suc (length (take m bs)))) (accepted (with_saved (value_from (b % 64) (take (w - 1) (take m bs))) w)) (refused 3)
+        ≡ pick (leb a.count (suc m)) (accepted a) (refused 3)
+    go w j h q = on (leb a.count (suc m)) refl
       where
-        on : (t : Bool) → leb n (suc m) ≡ t
-            → pick {A = Outcome (ℕ × ℕ)} (leb w (suc (length (take m bs)))) (accepted (value_from (b % 64) (take (w - 1) (take m bs)), w)) (refused 3)
-            ≡ pick t (accepted (x, n)) (refused 3)
+        on : (t : Bool) → leb a.count (suc m) ≡ t
+            → pick {A = Outcome Decoded} (leb w (suc (length (take m bs)))) (accepted (with_saved (value_from (b % 64) (take (w - 1) (take m bs))) w)) (refused 3)
+            ≡ pick t (accepted a) (refused 3)
         on true e =
-            let i : w ≤ suc (length (take m bs)) = omega (arith, length-take m bs, leb-true n (suc m) e) in
-            let k : w - 1 ≤ m = omega (arith, leb-true n (suc m) e) in
+            let i : w ≤ suc (length (take m bs)) = omega (arith, length-take m bs, leb-true a.count (suc m) e) in
+            let k : w - 1 ≤ m = omega (arith, leb-true a.count (suc m) e) in
             rw (le-leb _ _ i, take-take _ m bs k) (ap accepted q)
         on false e =
-            let i : suc (length (take m bs)) < w = omega (arith, length-take m bs, leb-false n (suc m) e) in
+            let i : suc (length (take m bs)) < w = omega (arith, length-take m bs, leb-false a.count (suc m) e) in
             rw (lt-leb _ _ i)
 
 -- of a tag k, with w what is read behind it and m bytes in all
-bounds : (k w m v n : ℕ) → k ≤ 3 → 2 ^ k ≤ m → w < 64 * 256 ^ (2 ^ k - 1) → ◌≡◌ {A = ℕ × ℕ} (w, 2 ^ k) (v, n) → (v < 2 ^ 62) × (n ≤ m) × (length (number_bytes v) ≤ n)
-bounds k w m v n hk l hw q =
-    let i : w ≡ v = ap (λ r. r.0) q in
-    let j : 2 ^ k ≡ n = ap (λ r. r.1) q in
-    let hv : v < 64 * 256 ^ (2 ^ k - 1) = rw i at hw in (
-      four k (λ k. v < 64 * 256 ^ (2 ^ k - 1) → v < 2 ^ 62) hk (omega arith) (omega arith) (omega arith) (omega arith) hv,
+bounds : (k w m : ℕ) (a : Decoded) → k ≤ 3 → 2 ^ k ≤ m → w < 64 * 256 ^ (2 ^ k - 1) → with_saved w (2 ^ k) ≡ a
+    → (a.value < 2 ^ 62) × (a.count ≤ m) × (length (number_bytes a.value) ≤ a.count)
+bounds k w m a hk l hw q =
+    let i : w ≡ a.value = ap (λ r. r.value) q in
+    let j : 2 ^ k ≡ a.count = ap (λ r. r.count) q in
+    let hv : a.value < 64 * 256 ^ (2 ^ k - 1) = rw i at hw in (
+      four k (λ k. a.value < 64 * 256 ^ (2 ^ k - 1) → a.value < 2 ^ 62) hk (omega arith) (omega arith) (omega arith) (omega arith) hv,
       omega arith,
-      rw (length_form _ v (tag_le v), ← j) (pow_mono (tag_least v k hk hv)),
+      rw (length_form _ a.value (tag_le a.value), ← j) (pow_mono (tag_least a.value k hk hv)),
     )
 
-pub read_bounds : (bs : List ℕ) (v n : ℕ) → ((i : ℕ) → get_or bs i 0 < 256) → read_number bs ≡ accepted (v, n)
-    → (v < 2 ^ 62) × (n ≤ length bs) × (length (number_bytes v) ≤ n)
+pub read_bounds : (bs : List ℕ) (a : Decoded) → ((i : ℕ) → get_or bs i 0 < 256) → read_number bs ≡ accepted a
+    → (a.value < 2 ^ 62) × (a.count ≤ length bs) × (length (number_bytes a.value) ≤ a.count)
 unfolding read_number
-read_bounds [] v n hs e = cc
-read_bounds (b ∷ bs) v n hs e =
-    picked _ _ (v, n) 3 e λ p q.
+read_bounds [] a hs e = cc
+read_bounds (b ∷ bs) a hs e =
+    picked _ _ a 3 e λ p q.
     let hk : b / 64 ≤ 3 = omega (arith, hs 0) in
     let l : 2 ^ (b / 64) ≤ suc (length bs) = leb-true _ _ p in
     let w = width_range (b / 64) hk in
     let m = 2 ^ (b / 64) - 1 in
     let t : length (take m bs) ≡ m = length-take-le m bs (omega arith) in
-    bounds (b / 64) _ (suc (length bs)) v n hk l (rw t at (value_lt (take m bs) (b % 64) 64 (bytes_take m bs (λ i. hs (suc i))) (omega arith))) q
+    bounds (b / 64) _ (suc (length bs)) a hk l (rw t at (value_lt (take m bs) (b % 64) 64 (bytes_take m bs (λ i. hs (suc i))) (omega arith))) q
+
+-- its byte count is the length of its shortest form and what this would have saved
+pub read_count : (bs : List ℕ) (a : Decoded) → ((i : ℕ) → get_or bs i 0 < 256) → read_number bs ≡ accepted a → a.count ≡ length (number_bytes a.value) + a.saved
+read_count bs a hs e =
+    let s : a.saved ≡ a.count - length (number_bytes a.value) = ap (λ r. r.saved) (read_saved bs a e) in
+    omega (arith, (read_bounds bs a hs e).2)
 
 -- what a number's size says of writing it
 pub write_refused : (v : ℕ) (out : List ℕ) (e : ℕ) → refused e ≡ size_number v → (refused e, out) ≡ write_number v out

@@ -4,7 +4,7 @@
 ghost use Rattle.std.specs.Prelude.{◌≡◌, ◌/◌, ◌^◌, ◌<◌, ◌≤◌, length, get_or};
 ghost use Rattle.refusal.specs.Outcome.{accepted, front};
 ghost use Rattle.words.specs.Words.{bytes_of};
-ghost use Rattle.varint.specs.Number.{number_bytes, read_number, read_wide, write_number, convert_number, size_number};
+ghost use Rattle.varint.specs.Number.{number_bytes, with_saved, read_number, read_wide, write_number, convert_number, size_number};
 ghost use Rattle.varint.specs.Answer.{convert_outcome};
 ghost use Rattle.refusal.specs.Answer.{outcome_of};
 
@@ -13,6 +13,14 @@ use words::bytes_at;
 
 #[derive(Clone, Copy, Debug, PartialEq, Eq)]
 pub struct VarInt(pub u64);
+
+// What reading gives: the number, how many bytes it was read from, and how many of these its shortest form would have saved.
+#[derive(Clone, Copy, Debug, PartialEq, Eq)]
+pub struct Decoded {
+    pub value: u64,
+    pub count: usize,
+    pub saved: usize,
+}
 
 impl From<u32> for VarInt {
     ghost from_gives = { λ x v. v.0 ≡ x };
@@ -65,7 +73,7 @@ impl VarInt {
 
     // The number at the front of `src`. The one-byte form stands apart: most numbers are short.
     #[tactic(auto, using(crate::proofs::Bytes::read_none))]
-    pub fn decode(src: &[u8]) -> Result<(u64, usize), Refusal>
+    pub fn decode(src: &[u8]) -> Result<Decoded, Refusal>
         ensures { outcome_of result ≡ read_number src.now }
     {
         if src.is_empty() {
@@ -74,19 +82,27 @@ impl VarInt {
         let b = src[0];
         let tag = b >> 6;
         if tag == 0 {
-            return Ok((u64::from(b), 1));
+            return Ok(Decoded {
+                value: u64::from(b),
+                count: 1,
+                saved: 0,
+            });
         }
         decode_longer(tag, src)
     }
 
-    // The same where eight bytes are there, with no branch on the number's width. 0 and 0 if there are fewer, and no Option: its caller has counted
+    // The same where eight bytes are there, with no branch on the number's width. Zeros if there are fewer, and no Option: its caller has counted
     // the bytes, and would branch once more.
     #[tactic(auto, using(crate::proofs::Word::read_front))]
-    pub fn decode_wide(src: &[u8]) -> (u64, usize)
-        ensures { (accepted result ≡ read_wide src.now) × (result.1 ≤ 8) }
+    pub fn decode_wide(src: &[u8]) -> Decoded
+        ensures { (accepted result ≡ read_wide src.now) × (result.count ≤ 8) }
     {
         if src.len() < VarInt::MAX_SIZE {
-            return (0, 0);
+            return Decoded {
+                value: 0,
+                count: 0,
+                saved: 0,
+            };
         }
         wide_of(u64::from_be_bytes(bytes_at(src, 0)))
     }
@@ -120,18 +136,30 @@ pub fn size_of(x: u64) -> usize
     }
 }
 
+// A number read from so many bytes, which are as many as its shortest form has, or more.
+fn with_saved(value: u64, count: usize) -> Decoded
+    requires { length (number_bytes value) ≤ count }
+    ensures { result ≡ with_saved value count }
+{
+    Decoded {
+        value,
+        count,
+        saved: count - size_of(value),
+    }
+}
+
 // The number at the front of eight bytes, which make `word`.
-#[tactic(auto, using(crate::proofs::Word::bits_range))]
-fn wide_of(word: u64) -> (u64, usize)
-    ensures { (accepted result ≡ read_number (bytes_of 8 word)) × (result.1 ≤ 8) }
+#[tactic(auto, using(crate::proofs::Word::bits_range, crate::proofs::Word::word_room))]
+fn wide_of(word: u64) -> Decoded
+    ensures { (accepted result ≡ read_number (bytes_of 8 word)) × (result.count ≤ 8) }
 {
     let tag = (word >> 62) as u32;
     let bits = 8u32 << tag;
-    ((word & VarInt::MAX.0) >> (64 - bits), 1usize << tag)
+    with_saved((word & VarInt::MAX.0) >> (64 - bits), 1usize << tag)
 }
 
 // A number of two, four or eight bytes, as `tag` of the first byte says: a `match`, since const arguments are constants.
-fn decode_longer(tag: u8, src: &[u8]) -> Result<(u64, usize), Refusal>
+fn decode_longer(tag: u8, src: &[u8]) -> Result<Decoded, Refusal>
     requires { (0 < length src.now) × (tag ≡ get_or src.now 0 0 / 64) × (0 < tag) }
     ensures { outcome_of result ≡ read_number src.now }
 {
@@ -143,8 +171,8 @@ fn decode_longer(tag: u8, src: &[u8]) -> Result<(u64, usize), Refusal>
 }
 
 // The number at the front, whose form has N bytes. The tag is no part of it.
-#[tactic(auto, using(crate::proofs::Bytes::read_short, crate::proofs::Bytes::read_sized, crate::proofs::Bytes::low_end))]
-fn read_form<const N: usize>(src: &[u8]) -> Result<(u64, usize), Refusal>
+#[tactic(auto, using(crate::proofs::Bytes::read_short, crate::proofs::Bytes::read_sized, crate::proofs::Bytes::bits_room, crate::proofs::Bytes::low_end))]
+fn read_form<const N: usize>(src: &[u8]) -> Result<Decoded, Refusal>
     requires { (0 < N) × (N ≤ 8) × (0 < length src.now) × (N ≡ 2 ^ (get_or src.now 0 0 / 64)) }
     ensures { outcome_of result ≡ read_number src.now }
 {
@@ -153,7 +181,7 @@ fn read_form<const N: usize>(src: &[u8]) -> Result<(u64, usize), Refusal>
     }
     let mut bytes = [0u8; 8];
     bytes[8 - N..].copy_from_slice(&src[..N]);
-    Ok((
+    Ok(with_saved(
         u64::from_be_bytes(bytes) & (VarInt::MAX.0 >> (64 - 8 * N)),
         N,
     ))

@@ -4,16 +4,21 @@
 use connection_id::ConnectionId;
 use refusal::Refusal;
 use std::io;
-use varint::VarInt;
+use varint::{Decoded, VarInt};
 
 fn show(rt: &HostRuntime, name: &str, ok: bool) -> io::Result<()> {
     let verdict = if ok { "ok" } else { "FAILED" };
     println!(rt; "{name}: {verdict}")
 }
 
-// A number that reads as `value` and takes `count` bytes.
-fn reads(src: &[u8], value: u64, count: usize) -> bool {
-    VarInt::decode(src) == Ok((value, count))
+// A number that reads as `value` and takes `count` bytes, `saved` of which its shortest form would have saved.
+fn reads(src: &[u8], value: u64, count: usize, saved: usize) -> bool {
+    VarInt::decode(src)
+        == Ok(Decoded {
+            value,
+            count,
+            saved,
+        })
 }
 
 fn is_cut(src: &[u8]) -> bool {
@@ -43,23 +48,28 @@ fn fills(value: u64, size: usize) -> bool {
     };
     VarInt(value).encode(part) == Ok(size)
         && out.get(size) == Some(&0xee)
-        && reads(&out, value, size)
+        && reads(&out, value, size, 0)
 }
 
 fn numbers(rt: &HostRuntime) -> io::Result<()> {
     show(
         rt,
         "A.1 eight bytes",
-        reads(b"\xc2\x19\x7c\x5e\xff\x14\xe8\x8c", 151288809941952652, 8),
+        reads(
+            b"\xc2\x19\x7c\x5e\xff\x14\xe8\x8c",
+            151288809941952652,
+            8,
+            0,
+        ),
     )?;
     show(
         rt,
         "A.1 four bytes",
-        reads(b"\x9d\x7f\x3e\x7d", 494878333, 4),
+        reads(b"\x9d\x7f\x3e\x7d", 494878333, 4, 0),
     )?;
-    show(rt, "A.1 two bytes", reads(b"\x7b\xbd", 15293, 2))?;
-    show(rt, "A.1 one byte", reads(b"\x25", 37, 1))?;
-    show(rt, "A.1 longer than needed", reads(b"\x40\x25", 37, 2))
+    show(rt, "A.1 two bytes", reads(b"\x7b\xbd", 15293, 2, 0))?;
+    show(rt, "A.1 one byte", reads(b"\x25", 37, 1, 0))?;
+    show(rt, "A.1 longer than needed", reads(b"\x40\x25", 37, 2, 1))
 }
 
 fn boundaries(rt: &HostRuntime) -> io::Result<()> {

@@ -3,7 +3,9 @@
 use Rattle.std.specs.Prelude.{ℕ, List, not, length, get_or, replicate, eqb}
 use Rattle.std.proofs.Math.Option.{Option, none, some}
 use Rattle.refusal.specs.Outcome.{Outcome, accepted, refused, pick, and_then, store}
+use Rattle.refusal.specs.Answer.{value_or}
 use Rattle.varint.specs.Number.{size_number, read_number, write_number}
+use Rattle.varint.specs.declared.Decoded.{Decoded}
 use Rattle.connection_id.specs.declared.ConnectionId.{ConnectionId}
 use Rattle.connection_id.specs.ConnectionId.{read_cid, write_cid}
 use Rattle.record.specs.declared.TransportParameters.{TransportParameters}
@@ -13,6 +15,8 @@ use Rattle.rules.specs.declared.Side.TheVariants.{Client, Server}
 use Rattle.record.specs.Record.{default_record}
 use Rattle.order.specs.Order.{permutation, order_fault}
 use Rattle.tidy.specs.Tidying.{tidy}
+use Rattle.tally.specs.declared.Counts.{Counts}
+use Rattle.report.specs.Report.{report}
 use Rattle.building.specs.declared.Settings.{Settings}
 use Rattle.building.specs.Building.{settings_fit, build}
 use Rattle.resumption.specs.Resumption.{issue_limit}
@@ -53,12 +57,12 @@ counting k (refused e) = refused e
 abbrev pub number_size : ℕ → ℕ → ℕ × ℕ
 number_size v n = count_code (size_number v) n
 
-abbrev pub number_into : Outcome (ℕ × ℕ) → ℕ → ℕ → ℕ × ℕ × ℕ
-number_into (accepted a) v n = (0, a.0, a.1)
-number_into (refused e) v n = (e, v, n)
+abbrev pub number_into : Outcome Decoded → ℕ → ℕ → ℕ → ℕ × ℕ × ℕ × ℕ
+number_into (accepted a) v n k = (0, a.value, a.count, a.saved)
+number_into (refused e) v n k = (e, v, n, k)
 
-abbrev pub number_read : List ℕ → ℕ → ℕ → ℕ × ℕ × ℕ
-number_read src v n = number_into (read_number src) v n
+abbrev pub number_read : List ℕ → ℕ → ℕ → ℕ → ℕ × ℕ × ℕ × ℕ
+number_read src v n k = number_into (read_number src) v n k
 
 abbrev pub number_write : ℕ → List ℕ → ℕ → ℕ × List ℕ × ℕ
 number_write v out n = counted (write_number v out) n
@@ -102,6 +106,10 @@ record_length image n = count_code (image_length image) n
 
 abbrev pub tidied : ℕ → List ℕ → List ℕ → ℕ → ℕ × List ℕ × ℕ
 tidied side src out n = counted (tidy (side_of side) src out) n
+
+-- the code, and the five counts
+abbrev pub reported : ℕ → List ℕ → Counts → ℕ × Counts
+reported side src c = (code (report (side_of side) src), value_or c (report (side_of side) src))
 
 -- BUILDING. The settings in the order of the header: an idle timeout of 0 is none, and so is a buffer size without its flag
 abbrev pub settings_from : List ℕ → Settings

@@ -3,7 +3,9 @@
 #![tactic(auto)]
 
 ghost use Rattle.std.specs.Prelude.{◌≡◌};
-ghost use Rattle.yuthpram.specs.Interface.{number_size, number_read, number_write, cid_read, cid_write, record_default, record_check, record_read, order_check, order_position, record_write, record_length, tidied, record_new, resume_check, limit_read, ids_check};
+ghost use Rattle.yuthpram.specs.Interface.{number_size, number_read, number_write, cid_read, cid_write, record_default, record_check, record_read, order_check, order_position, record_write, record_length, tidied, reported, record_new, resume_check, limit_read, ids_check};
+
+use tally::Counts;
 
 #[unsafe(no_mangle)]
 pub extern "C" fn yuthpram_number_size(value: u64, count: &mut usize) -> u8
@@ -13,10 +15,15 @@ pub extern "C" fn yuthpram_number_size(value: u64, count: &mut usize) -> u8
 }
 
 #[unsafe(no_mangle)]
-pub extern "C" fn yuthpram_number_read(src: &[u8], value: &mut u64, count: &mut usize) -> u8
-    ensures { (result, value.new, count.new) ≡ number_read src.now value.old count.old }
+pub extern "C" fn yuthpram_number_read(
+    src: &[u8],
+    value: &mut u64,
+    count: &mut usize,
+    saved: &mut usize,
+) -> u8
+    ensures { (result, value.new, count.new, saved.new) ≡ number_read src.now value.old count.old saved.old }
 {
-    yuthpram::yuthpram_number_read(src, value, count)
+    yuthpram::yuthpram_number_read(src, value, count, saved)
 }
 
 #[unsafe(no_mangle)]
@@ -94,6 +101,13 @@ pub extern "C" fn yuthpram_tidy(side: u8, src: &[u8], out: &mut [u8], count: &mu
     ensures { (result, out.new, count.new) ≡ tidied side src.now out.old count.old }
 {
     yuthpram::yuthpram_tidy(side, src, out, count)
+}
+
+#[unsafe(no_mangle)]
+pub extern "C" fn yuthpram_report(side: u8, src: &[u8], counts: &mut Counts) -> u8
+    ensures { (result, counts.new) ≡ reported side src.now counts.old }
+{
+    yuthpram::yuthpram_report(side, src, counts)
 }
 
 #[unsafe(no_mangle)]

@@ -4,6 +4,7 @@ ghost use Rattle.varint.specs.Number.{read_number, write_number};
 ghost use Rattle.order.specs.Order.{order_fault};
 ghost use Rattle.reader.specs.Reading.{read};
 ghost use Rattle.tidy.specs.Tidying.{tidy};
+ghost use Rattle.report.specs.Report.{report};
 ghost use Rattle.by_image.specs.ByImage.{image_length, image_resume, image_check, image_authenticate};
 ghost use Rattle.yuthpram_cli.specs.Statuses.{status_of, fault_status, seen_of};
 
@@ -15,8 +16,9 @@ use image::{CID_SIZE, RECORD_SIZE};
 use reduced::note_reduced;
 use refusal::Refusal;
 use rules::Side;
+use std::alloc::Global;
 use text::out::{Count, HexBytes, Out};
-use varint::VarInt;
+use varint::{Decoded, VarInt};
 
 fn refused(out: &mut Out, r: Refusal) -> Status
     ensures { result ≡ Status.Refused }
@@ -212,13 +214,37 @@ pub fn tidy(out: &mut Out, side: Side, src: &[u8]) -> Status
     }
 }
 
+// Shows where the bytes of an extension go.
+pub fn report(out: &mut Out, alloc: Global, side: Side, src: &[u8]) -> Status
+    ensures { result ≡ status_of (report side src.now) }
+{
+    match report::report(side, src) {
+        Ok(counts) => {
+            picture::show(out, alloc, src, counts);
+            Status::Answered
+        }
+        Err(r) => unread(out, side, r, src),
+    }
+}
+
+// A number that was read: its bytes, and how many of them its shortest form saves.
+fn say_number(out: &mut Out, read: Decoded) {
+    let x = read.value;
+    let count = Count(read.count);
+    let saved = read.saved;
+    if saved == 0 {
+        out.say(format_args!("{x} ({count}, the shortest form)\n"));
+    } else {
+        out.say(format_args!("{x} ({count}, {saved} saved by the shortest form)\n"));
+    }
+}
+
 pub fn decode(out: &mut Out, src: &[u8]) -> Status
     ensures { result ≡ status_of (read_number src.now) }
 {
     match VarInt::decode(src) {
-        Ok((x, n)) => {
-            let count = Count(n);
-            out.say(format_args!("{x} ({count})\n"));
+        Ok(read) => {
+            say_number(out, read);
             Status::Answered
         }
         Err(r) => refused(out, r),

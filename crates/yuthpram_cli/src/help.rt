@@ -10,6 +10,7 @@ const USAGE: &str =
     "yuthpram: the transport parameter extension of QUIC. SIDE is client or server: the side that reads it
   yuthpram read SIDE [HEX]             show what an extension says to SIDE
   yuthpram tidy SIDE [HEX]             write it anew in its shortest form
+  yuthpram report SIDE [HEX]           show where its bytes go, and which parameters waste most
   yuthpram check SIDE [HEX]            tell whether SIDE accepts it
   yuthpram check SIDE --record [FILE]  tell whether a record in text form is legal for SIDE to read
   yuthpram write [FILE]                write the extension of a record in text form
@@ -19,7 +20,7 @@ const USAGE: &str =
                                        tell whether a record may be resumed to from the remembered one in CACHED, and if not, what is reduced
   yuthpram authenticate_cids SIDE INITIAL_SRC ORIGINAL_DST RETRY_SRC [FILE]
                                        tell SIDE whether the peer with this record is the one that packets came from, and if not, which IDs differ
-  yuthpram number HEX                  decode a number: its value and how many bytes it takes
+  yuthpram number HEX                  decode a number: its value, how many bytes it takes, and how many its shortest form saves
   yuthpram number --write DECIMAL      encode a number in its shortest form
 ";
 
@@ -27,6 +28,9 @@ const DETAILS: &str = "
 HEX may have spaces and colons in it. Without HEX, FILE or PLACE, standard input is read; --raw in the place of HEX takes the bytes of standard
 input as they are. An extension, and a record in text form, may have 65536 bytes. The entries of an order are decimal, at most 255 of
 them, and positions count from 0.
+
+A report counts the whole of a parameter that is skipped or restates a default, and of the others what shorter forms would save. Its bars are shares
+of the extension, 40 columns for all of it and at least one for a part that is there. Of the parameters that waste bytes it names ten.
 
 The connection IDs that packets carried are hexadecimal or (empty): the Source Connection ID of the peer's first Initial, the Destination
 Connection ID of the client's first Initial, and the Source Connection ID of the Retry, or none without one.

@@ -20,6 +20,24 @@ pub enum Status {
     Misused,
 }
 
+fn read<'a>(out: &mut Out, args: &'a Args<'_>) -> Result<Status, Complaint<'a>> {
+    let side = args.side()?;
+    let src = args.bytes_at(3)?;
+    Ok(answers::read(out, side, src.as_slice()))
+}
+
+fn tidy<'a>(out: &mut Out, args: &'a Args<'_>) -> Result<Status, Complaint<'a>> {
+    let side = args.side()?;
+    let src = args.bytes_at(3)?;
+    Ok(answers::tidy(out, side, src.as_slice()))
+}
+
+fn report<'a>(out: &mut Out, args: &'a Args<'_>) -> Result<Status, Complaint<'a>> {
+    let side = args.side()?;
+    let src = args.bytes_at(3)?;
+    Ok(answers::report(out, args.alloc(), side, src.as_slice()))
+}
+
 fn check<'a>(out: &mut Out, args: &'a Args<'_>) -> Result<Status, Complaint<'a>> {
     let side = args.side()?;
     if let b"--record" = args.name(3) {
@@ -79,14 +97,9 @@ fn run<'a>(out: &mut Out, args: &'a Args<'_>) -> Result<Status, Complaint<'a>> {
         return Ok(help::say_help(out));
     }
     let status = match args.name(1) {
-        b"read" => {
-            let side = args.side()?;
-            answers::read(out, side, args.bytes_at(3)?.as_slice())
-        }
-        b"tidy" => {
-            let side = args.side()?;
-            answers::tidy(out, side, args.bytes_at(3)?.as_slice())
-        }
+        b"read" => read(out, args)?,
+        b"tidy" => tidy(out, args)?,
+        b"report" => report(out, args)?,
         b"check" => check(out, args)?,
         b"write" => answers::write(out, &args.last_record_at(2)?),
         b"length" => answers::length(out, &args.last_record_at(2)?),

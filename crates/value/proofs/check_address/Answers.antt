@@ -14,4 +14,4 @@ pub returns : goal.returns
 returns c =
     let n = c.from-n.ensures in
     let l = rw n at c.if-v-end.false in
-    c.fits_if.ensures ∙ rw n (address_judged c.args.start c.args.v.now c.if-v-lt25.false (rw n at c.if-n-gt-MAX_SIZE.false) (omega (arith, l)) (sym c.all_zero.ensures ∙ c.if-all_zero.false))
+    c.fits_if.ensures ∙ rw (n, c.stands.ensures) (address_judged c.args.start c.args.v.now c.if-v-lt25.false (rw n at c.if-n-gt-MAX_SIZE.false) (omega (arith, l)) (sym c.all_zero.ensures ∙ c.if-all_zero.false))

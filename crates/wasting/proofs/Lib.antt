@@ -1,0 +1,2 @@
+pub mod Wasting
+pub mod Collecting
