@@ -142,12 +142,15 @@ module _ (s : Side) (e : List ℕ) where
     pub taken : d.skipped + d.restated + d.saved ≤ length e
     taken = let p = passed in rw (← p.sums) (omega (arith, complete s e (record_from e p.found) hb (read_recorded s e p.found p.was)))
 
-    pub is_report : accepted (record { tidied = length e - d.skipped - d.restated - d.saved; skipped = d.skipped; restated = d.restated; saved = d.saved; named = ones m }) ≡ report s e
+    -- whatever the code makes of them: what is left of the length, and the ones of the mask
+    pub is_report : (t n : ℕ) → t + (d.skipped + d.restated + d.saved) ≡ length e → n ≡ ones m
+        → accepted (record { tidied = t; skipped = d.skipped; restated = d.restated; saved = d.saved; named = n }) ≡ report s e
     unfolding report
-    is_report =
+    is_report t n x y =
         let p = passed in
         let k = read_recorded s e p.found p.was in
         let c = complete s e (record_from e p.found) hb k in
-        let t : length e - d.skipped - d.restated - d.saved ≡ (counts (parameters e)).tidied = rw (← p.sums) (omega (arith, c)) in
-        let n : ones m ≡ (counts (parameters e)).named = rw (← p.marks) (marks_named s e p.found p.was) in
-        rw (k, t, n, ← p.sums) refl
+        let z : t + ((counts (parameters e)).skipped + (counts (parameters e)).restated + (counts (parameters e)).saved) ≡ length e = rw (← p.sums) at x in
+        let l : t ≡ (counts (parameters e)).tidied = omega (arith, c, z) in
+        let o : n ≡ (counts (parameters e)).named = y ∙ rw (← p.marks) (marks_named s e p.found p.was) in
+        rw (k, l, o, ← p.sums) refl
