@@ -1,6 +1,11 @@
 //! The operations, of each library.
 
-use crate::{Side, image, samples::Sample, transport_parameters::TransportParameters};
+use crate::{
+    Side,
+    image::{self, Record},
+    samples::Sample,
+    transport_parameters::TransportParameters,
+};
 use std::{
     ffi::{CStr, c_char},
     hint::black_box,
@@ -73,7 +78,7 @@ impl Who {
 
 pub const OPS: [Op; 6] = [Op::Read, Op::ReadOrders, Op::Write, Op::Ordered, Op::WriteOrders, Op::Tidy];
 pub const ALL: [Who; 5] = [Who::Quinn, Who::Rattle, Who::Interface, Who::Rust, Who::Ngtcp2];
-/// Those that store the same bytes.
+/// Those that store the same bytes, but for version information, which quinn does not have.
 pub const ALIKE: [Who; 4] = [Who::Quinn, Who::Rattle, Who::Interface, Who::Rust];
 
 unsafe extern "C" {
@@ -204,7 +209,7 @@ pub fn call(who: Who, op: Op, s: &Sample, times: usize, out: &mut Output) -> usi
     }
 }
 
-/// Whether the library reads these bytes, and Yuthpram as quinn does.
+/// Whether the library reads these bytes, and Yuthpram as quinn does, and the version information besides.
 pub fn accepts(who: Who, bytes: &[u8], s: &Sample) -> bool {
     let (x, n, mut image) = (bytes.as_ptr(), bytes.len(), s.images.of(Op::Write)[0]);
     match who {
@@ -212,7 +217,7 @@ pub fn accepts(who: Who, bytes: &[u8], s: &Sample) -> bool {
         Who::Rattle => unsafe { timing_read(x, n, 1) == 0 },
         Who::Interface => {
             let code = unsafe { yuthpram_read(0, x, n, image.as_mut_ptr(), image::RECORD) };
-            code == 0 && image == image::of_record(&quinn_read(bytes))
+            code == 0 && image == image::of_record(&Record::from(quinn_read(bytes)).with_versions(s.versions))
         }
         Who::Rust => crate_read(bytes) == crate_read(&s.bytes),
         Who::Ngtcp2 => unsafe { peer_read(x, n) == 0 },

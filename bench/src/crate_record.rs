@@ -1,6 +1,6 @@
 //! Records of the Rust crate (bindings/rust).
 
-use crate::samples::Image;
+use crate::{image::VERSIONS, samples::Image};
 use yuthpram::{ReservedTransportParameter, Side, TransportParameters, VarInt};
 
 fn number(image: &Image, at: usize) -> VarInt {
@@ -21,6 +21,6 @@ pub fn of(bytes: &[u8], image: &Image) -> TransportParameters {
     p.max_ack_delay = number(image, 72);
     p.min_ack_delay = (image[99] == 1).then(|| number(image, 100));
     p.grease_transport_parameter = (image[255] == 1).then(|| reserved(image));
-    p.write_order = (image[281] == 1).then(|| image[282..].try_into().expect("21 places"));
+    p.write_order = (image[281] == 1).then(|| image[282..VERSIONS].try_into().expect("22 places"));
     p
 }

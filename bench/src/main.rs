@@ -16,16 +16,21 @@ mod samples;
 include!("../../oracle/src/quinn.rs");
 
 use calls::{ALIKE, ALL, OPS, Op, Who, accepts, call, exists};
-use samples::{ORDERS, Sample};
+use samples::{ORDERS, Sample, without_versions};
 
-/// Whether quinn and Yuthpram store the same bytes, in each order.
+/// Whether quinn and Yuthpram store the same bytes, in each order, but for version information.
 fn same(op: Op, s: &Sample) -> bool {
     let stored = |who: Who, times: usize| {
         let mut out = [0; calls::ROOM];
-        (call(who, op, s, times, &mut out), out)
+        let count = call(who, op, s, times, &mut out);
+        assert!(out[count..].iter().all(|b| *b == 0), "{} stores what it does not count", who.name());
+        out[..count].to_vec()
     };
     let turns = if op.many() { ORDERS } else { 1 };
-    (1..=turns).all(|times| ALIKE[1..].iter().all(|who| stored(*who, times) == stored(ALIKE[0], times)))
+    (1..=turns).all(|times| {
+        let [quinn, ours @ ..] = ALIKE.map(|who| stored(who, times));
+        ours.iter().all(|bytes| *bytes == ours[0]) && without_versions(&ours[0]) == quinn
+    })
 }
 
 /// Before anything is timed: every library accepts each sample in each order, and quinn and Yuthpram read and store the same.

@@ -2,7 +2,8 @@
 
 use crate::{
     calls::{Op, quinn_read},
-    crate_record, image,
+    crate_record,
+    image::{self, PLACES, Record, Versions},
     transport_parameters::TransportParameters,
 };
 
@@ -41,6 +42,8 @@ pub struct Sample {
     /// the same, and then with its parameters in each of the drawn orders
     plain: [Vec<u8>; 1],
     shuffled: Vec<Vec<u8>>,
+    /// what is read besides what quinn reads
+    pub versions: Option<Versions>,
     /// what is written: as an image, as quinn's record, as the Rust crate's
     pub images: Records<Image>,
     pub quinn: Records<TransportParameters>,
@@ -61,9 +64,10 @@ fn number(width: usize, x: u64) -> Vec<u8> {
     bytes
 }
 
-/// A parameter: its identifier's bytes, then its value behind a length byte.
+/// A parameter: its identifier's bytes, then its value behind its length.
 fn parameter(id: &[u8], value: &[u8]) -> Vec<u8> {
-    [id, &[value.len() as u8], value].concat()
+    let width = if value.len() < 64 { 1 } else { 2 };
+    [id, &number(width, value.len() as u64), value].concat()
 }
 
 /// Bytes that are all different from 0.
@@ -71,6 +75,7 @@ fn bytes<const N: usize>() -> [u8; N] {
     std::array::from_fn(|i| i as u8 + 1)
 }
 
+const VERSIONS: u8 = 0x11;
 const MIN_ACK_DELAY: [u8; 8] = [0xc0, 0, 0, 0, 0xff, 0x04, 0xde, 0x1b];
 
 /// The IDs that a server has to send.
@@ -106,7 +111,7 @@ fn typical() -> Vec<u8> {
 
 const RESERVED: u64 = 31 * (1 << 55) + 27;
 
-/// Every parameter, each in its longest form, and a reserved one: 314 bytes.
+/// Every parameter, each in its longest form, and a reserved one: 385 bytes.
 fn full() -> Vec<u8> {
     let largest = [1 << 61, 1 << 61, 1 << 61, 1 << 61, 1 << 61, 1 << 61, 1 << 60, 1 << 60, 20, 16_383, 1 << 61];
     let ids = [0x01, 0x03, 0x04, 0x05, 0x06, 0x07, 0x08, 0x09, 0x0a, 0x0b, 0x0e];
@@ -124,8 +129,18 @@ fn full() -> Vec<u8> {
         parameter(&[0x10], &bytes::<20>()),
         parameter(&[0x6a, 0xb2], &[]),
         parameter(&MIN_ACK_DELAY, &number(8, 16_383_000)),
+        parameter(&[VERSIONS], &bytes::<68>()),
     ];
     numbers.chain(others.concat()).collect()
+}
+
+/// What Chromium sent, the first in tests/real/clients.txt, and the IDs that a server has to send in place of its empty one.
+fn chromium() -> Vec<u8> {
+    let list = include_str!("../../tests/real/clients.txt");
+    let text = list.lines().find_map(|l| l.strip_prefix("extension ")).expect("an extension");
+    let sent: Vec<u8> = (0..text.len()).step_by(2).map(|i| u8::from_str_radix(&text[i..i + 2], 16).expect("two digits")).collect();
+    let others = parameters(&sent).into_iter().filter(|p| p.place != image::place(0x0f));
+    others.flat_map(|p| p.whole.to_vec()).chain(ids()).collect()
 }
 
 /// The IDs and unknown parameters, 64 KiB: reserved identifiers of each width, values of 0 to 16 bytes.
@@ -155,7 +170,7 @@ fn few() -> Vec<u8> {
     [ids(), one.repeat(4)].concat()
 }
 
-/// The record of `full`, made larger where only reading sets a limit, and with the reserved parameter: it is written as 314 bytes.
+/// The record of `full`, made larger where only reading sets a limit, and with the reserved parameter: it is written as 385 bytes.
 fn full_record(read: Image) -> Image {
     let mut p = image::to_record(&read);
     p.ack_delay_exponent.0 = 1 << 61;
@@ -169,13 +184,7 @@ fn full_record(read: Image) -> Image {
     record
 }
 
-/// The identifiers of the places, the reserved one aside.
-const IDS: [u64; 21] = [
-    0x01, 0x03, 0x04, 0x05, 0x06, 0x07, 0x08, 0x09, 0x0a, 0x0b, 0x0e, RESERVED, 0x02, 0x0c, 0x20, 0x0d, 0x00, 0x0f, 0x10, 0x2ab2,
-    0xff04de1b,
-];
-
-type Order = [u8; IDS.len()];
+type Order = [u8; PLACES];
 
 /// The orders: each a shuffle, from a fixed seed (xorshift).
 fn orders() -> Vec<Order> {
@@ -194,14 +203,14 @@ fn orders() -> Vec<Order> {
     (0..ORDERS).map(|_| next()).collect()
 }
 
-/// The order of the rows with one: every 8th place.
+/// The order of the rows with one: every 9th place.
 fn one_order() -> Order {
-    std::array::from_fn(|i| (i * 8 % IDS.len()) as u8)
+    std::array::from_fn(|i| (i * 9 % PLACES) as u8)
 }
 
 fn ordered(mut record: Image, order: &Order) -> Image {
     record[281] = 1;
-    record[282..].copy_from_slice(order);
+    record[282..image::VERSIONS].copy_from_slice(order);
     record
 }
 
@@ -213,36 +222,58 @@ fn take(x: &mut &[u8]) -> u64 {
     head[1..].iter().fold(u64::from(head[0] & 0x3f), |number, byte| number << 8 | u64::from(*byte))
 }
 
-/// The parameters of an extension, each with its place.
-fn parameters(bytes: &[u8]) -> Vec<(u8, &[u8])> {
+/// A parameter of an extension: its place, that of the reserved one if it is unknown, and its bytes.
+struct Parameter<'a> {
+    place: u8,
+    whole: &'a [u8],
+    value: &'a [u8],
+}
+
+fn parameters(bytes: &[u8]) -> Vec<Parameter<'_>> {
     let mut rest = bytes;
     let mut all = Vec::new();
     while !rest.is_empty() {
         let start = rest;
         let id = take(&mut rest);
         let len = take(&mut rest) as usize;
-        rest = &rest[len..];
-        let place = IDS.iter().position(|known| *known == id).expect("a known identifier");
-        all.push((place as u8, &start[..start.len() - rest.len()]));
+        let (value, behind) = rest.split_at(len);
+        rest = behind;
+        all.push(Parameter { place: image::place(id), whole: &start[..start.len() - rest.len()], value });
     }
     all
+}
+
+fn is_versions(p: &Parameter) -> bool {
+    p.place == image::place(VERSIONS.into())
 }
 
 /// The extension with its parameters in an order.
 fn shuffled(bytes: &[u8], order: &Order) -> Vec<u8> {
     let mut all = parameters(bytes);
-    all.sort_by_key(|(place, _)| order.iter().position(|p| p == place));
-    all.iter().flat_map(|(_, whole)| whole.iter().copied()).collect()
+    all.sort_by_key(|p| order.iter().position(|place| *place == p.place));
+    all.iter().flat_map(|p| p.whole.to_vec()).collect()
 }
 
-const MAKE: [(&str, fn() -> Vec<u8>); 5] =
-    [("small", small), ("typical", typical), ("full", full), ("64 KiB unknown", unknown), ("64 KiB, few and long", few)];
+/// What quinn writes of what is written.
+pub fn without_versions(bytes: &[u8]) -> Vec<u8> {
+    parameters(bytes).iter().filter(|p| !is_versions(p)).flat_map(|p| p.whole.to_vec()).collect()
+}
+
+const MAKE: [(&str, fn() -> Vec<u8>); 6] = [
+    ("small", small),
+    ("typical", typical),
+    ("full", full),
+    ("64 KiB unknown", unknown),
+    ("64 KiB, few and long", few),
+    ("Chromium's", chromium),
+];
 
 /// The sample at a place.
 pub fn sample(at: usize) -> Sample {
     let (name, make) = MAKE[at];
     let bytes = make();
-    let read = image::of_record(&quinn_read(&bytes));
+    let versions = parameters(&bytes).iter().find(|p| is_versions(p)).map(|p| Versions::of(p.value));
+    let read = image::of_record(&Record::from(quinn_read(&bytes)).with_versions(versions));
     let record = if name == "full" { full_record(read) } else { read };
     let drawn = orders();
     let images = Records {
@@ -252,8 +283,8 @@ pub fn sample(at: usize) -> Sample {
     };
     let small = bytes.len() <= crate::calls::ROOM;
     let shuffled = drawn.iter().filter(|_| small).map(|order| shuffled(&bytes, order)).collect();
-    let (quinn, rust) = (images.map(|i| image::to_record(i)), images.map(|i| crate_record::of(&bytes, i)));
-    Sample { name, plain: [bytes.clone()], bytes, shuffled, images, quinn, rust }
+    let (quinn, rust) = (images.map(|i| *image::to_record(i)), images.map(|i| crate_record::of(&bytes, i)));
+    Sample { name, plain: [bytes.clone()], bytes, shuffled, versions, images, quinn, rust }
 }
 
 pub fn samples() -> Vec<Sample> {

@@ -1,4 +1,4 @@
-/* Transport parameters of QUIC (RFC 9000, RFC 9221, RFC 9287, draft-ietf-quic-ack-frequency-08): the C interface of Yuthpram.
+/* Transport parameters of QUIC (RFC 9000, RFC 9221, RFC 9287, RFC 9368, draft-ietf-quic-ack-frequency-08): the C interface of Yuthpram.
  *
  * Every function takes any bytes, numbers and lengths, allocates nothing, keeps nothing, and returns YUTHPRAM_OK, which is 0, or the
  * number of a refusal. A call that is refused changes no byte behind its pointers. yuthpram_order_fault alone refuses nothing: 6 is its answer,
@@ -17,6 +17,10 @@
 extern "C" {
 #endif
 
+/* Raised whenever a program that was built with an older header would no longer work: when a size, a layout, a struct or the arguments of a
+ * function change. 1 stands for every header before this macro, the last of them with images of 303 bytes and orders of 21 places. */
+#define YUTHPRAM_INTERFACE_VERSION 2
+
 /* The refusals: name, number, meaning. MALFORMED, ILLEGAL_VALUE, CUT, MISFIT, SECOND_COPY, CID_ABSENT and CID_MISMATCH travel as
  * TRANSPORT_PARAMETER_ERROR (0x08), LIMIT_REDUCED as PROTOCOL_VIOLATION (0x0a). */
 #define YUTHPRAM_REFUSALS(X) \
@@ -25,7 +29,7 @@ extern "C" {
     X(UNEXPECTED_END, 3, "the input ends within a number") \
     X(VARINT_BOUNDS_EXCEEDED, 4, "a number of 2^62 or more") \
     X(BUFFER_TOO_SHORT, 5, "the output is shorter than the bytes due") \
-    X(INVALID_ORDER, 6, "an order that is not a permutation of 0 to 20") \
+    X(INVALID_ORDER, 6, "an order that is not a permutation of 0 to 21") \
     X(ILL_FORMED, 7, "a record or connection ID that is not well formed, or no image") \
     X(LIMIT_REDUCED, 8, "a remembered limit was reduced") \
     X(INVALID_DRAW, 9, "a drawn value out of range") \
@@ -58,13 +62,14 @@ static inline const char *yuthpram_strerror(uint8_t refusal)
     }
 }
 
-/* A side is the one that READS the extension, for which the value rules differ: a server may not be sent what only a server sends. So a
- * server that checks the record it is about to send asks for YUTHPRAM_CLIENT. Any other number but 0 is a server too. */
+/* A side is the one that READS the extension, for which the value rules differ: a server may not be sent what only a server sends, and only a server
+ * asks that the chosen version be available. So a server that checks the record it is about to send asks for YUTHPRAM_CLIENT. Any other number but 0
+ * is a server too. */
 enum { YUTHPRAM_CLIENT = 0, YUTHPRAM_SERVER = 1 };
 
 /* IMAGES: how records and connection IDs are passed.
  *
- * The image of a connection ID has 21 bytes: its length, then its bytes, then zeros. The image of a record has 303. Numbers have the high
+ * The image of a connection ID has 21 bytes: its length, then its bytes, then zeros. The image of a record has 374. Numbers have the high
  * byte first; a flag is 0 or 1; what is absent is all zero.
  *   0  the eleven numbers of catalogue places 0 to 10, eight bytes each: max_idle_timeout, max_udp_payload_size, initial_max_data,
  *      initial_max_stream_data_bidi_local, _bidi_remote, _uni, initial_max_streams_bidi, _uni, ack_delay_exponent, max_ack_delay,
@@ -80,21 +85,25 @@ enum { YUTHPRAM_CLIENT = 0, YUTHPRAM_SERVER = 1 };
  * 191  preferred_address: presence (flag); IPv4: presence (flag), 4 address bytes, port (two bytes); IPv6: presence (flag), 16 address
  *      bytes, port (two bytes); connection ID, 21 bytes; token, 16 bytes
  * 255  grease_transport_parameter (reserved): presence (flag), identifier (eight bytes), payload length (one byte), payload (16 bytes)
- * 281  write_order: presence (flag), 21 places
+ * 281  write_order: presence (flag), 22 places
+ * 304  version_information: presence (flag), how many versions are available (one byte), chosen version (four bytes), 16 available versions (four
+ *      bytes each, zero from that many on)
  *
- * Bytes are no image if they have another length, if one of the 13 flags is neither 0 nor 1, or if max_datagram_frame_size or min_ack_delay
+ * Bytes are no image if they have another length, if one of the 14 flags is neither 0 nor 1, or if max_datagram_frame_size or min_ack_delay
  * is absent and not 0. Every function that takes an image refuses such bytes with ILL_FORMED, before it looks at anything else but the
  * settings of yuthpram_new.
  *
- * Whether what an image holds is well formed (numbers below 2^62, IDs of at most 20 bytes, zeros behind them and in whatever is absent) is
- * another matter. Checking, writing, the length, building, resumption and yuthpram_authenticate_cids look at it, and refuse with the same
- * number; yuthpram_issue_cids_limit does not.
+ * Whether what an image holds is well formed (numbers below 2^62, IDs of at most 20 bytes, at most 16 available versions, zeros behind them and in
+ * whatever is absent) is another matter. Checking, writing, the length, building, resumption and yuthpram_authenticate_cids look at it, and refuse
+ * with the same number; yuthpram_issue_cids_limit does not.
  */
 #define YUTHPRAM_CID_SIZE 21
-#define YUTHPRAM_RECORD_SIZE 303
+/* How many places an order has. */
+#define YUTHPRAM_PLACES 22
+#define YUTHPRAM_RECORD_SIZE 374
 
 /* The longest extension of a well-formed record. */
-#define YUTHPRAM_MAX_EXTENSION 314
+#define YUTHPRAM_MAX_EXTENSION 385
 
 /* What building takes besides a connection ID and drawn values: an array of YUTHPRAM_SETTINGS numbers. Of a yes or no, 0 is no and any
  * other number, of 2^62 or more too, is yes. */
@@ -130,25 +139,26 @@ uint8_t yuthpram_cid_read(const uint8_t *src, size_t src_len, uint8_t *cid, size
 /* Writes the connection ID of an image behind a length byte. Refuses 7, then 5. */
 uint8_t yuthpram_cid_write(const uint8_t *cid, size_t cid_len, uint8_t *out, size_t out_len, size_t *count);
 
-/* The image of the default record. Refuses 5 if record_len is below 303. */
+/* The image of the default record. Refuses 5 if record_len is below 374. */
 uint8_t yuthpram_default(uint8_t *record, size_t record_len);
 
 /* Checks a record for the side that is to read it: a server checks its own record for YUTHPRAM_CLIENT. Refuses 7, then 2. */
 uint8_t yuthpram_check(const uint8_t *record, size_t record_len, uint8_t side);
 
-/* Reads an extension for the side that reads. Refuses 10, 12, 2 or 11, then 5 if record_len is below 303: of each parameter in turn, from the
+/* Reads an extension for the side that reads. Refuses 10, 12, 2 or 11, then 5 if record_len is below 374: of each parameter in turn, from the
  * front, CUT is found first, then SECOND_COPY, then ILLEGAL_VALUE for a preferred address with neither family, then MISFIT; behind the last one
- * ILLEGAL_VALUE if a value rule is broken. MISFIT and SECOND_COPY stay whatever follows: the sender is wrong. What would be accepted and is cut off
- * within a parameter is CUT; but CUT alone does not clear the sender, who may have sent too large a length. What is accepted is accepted in every
- * order of its whole parameters, with the same record; which fault of a refused one is found depends on the order. */
+ * ILLEGAL_VALUE if a value rule is broken: among these are a version of 0 and, for a server, a chosen version that is not available. MISFIT and
+ * SECOND_COPY stay whatever follows: the sender is wrong. What would be accepted and is cut off within a parameter is CUT; but CUT alone does not clear
+ * the sender, who may have sent too large a length. What is accepted is accepted in every order of its whole parameters, with the same record; which
+ * fault of a refused one is found depends on the order. */
 uint8_t yuthpram_read(uint8_t side, const uint8_t *src, size_t src_len, uint8_t *record, size_t record_len);
 
-/* Whether an order is a permutation of 0 to 20. Refuses 6. */
+/* Whether an order is a permutation of 0 to 21. Refuses 6. */
 uint8_t yuthpram_check_order(const uint8_t *order, size_t order_len);
 
-/* What is wrong with an order of any length: stores the position, from 0, of the first entry that is over 20 or repeats an earlier one, or
- * order_len if entries are only missing, and returns INVALID_ORDER. Returns OK and stores nothing exactly for a permutation of 0 to 20. Of more than 21
- * entries one of the first 22 is at fault, and those behind them change nothing. */
+/* What is wrong with an order of any length: stores the position, from 0, of the first entry that is over 21 or repeats an earlier one, or
+ * order_len if entries are only missing, and returns INVALID_ORDER. Returns OK and stores nothing exactly for a permutation of 0 to 21. Of more than 22
+ * entries one of the first 23 is at fault, and those behind them change nothing. */
 uint8_t yuthpram_order_fault(const uint8_t *order, size_t order_len, size_t *position);
 
 /* Writes the extension of a record, in its order or, without one, in catalogue order. Refuses 7, 6, then 5. */
@@ -175,8 +185,8 @@ typedef struct {
 uint8_t yuthpram_report(uint8_t side, const uint8_t *src, size_t src_len, yuthpram_counts *counts);
 
 /* Builds a record to send, of YUTHPRAM_SETTINGS settings, the image of initial_src_cid, the draw for the reserved identifier, the
- * reserved payload (at most 15 bytes) and the order. Refuses 7 if settings_len is another, 4, 7 for the ID, 9, 6, then 5 if record_len
- * is below 303. */
+ * reserved payload (at most 15 bytes) and the order. It has no version information. Refuses 7 if settings_len is another, 4, 7 for the ID, 9, 6, then
+ * 5 if record_len is below 374. */
 uint8_t yuthpram_new(const uint64_t *settings, size_t settings_len, const uint8_t *cid, size_t cid_len, uint64_t draw,
                      const uint8_t *payload, size_t payload_len, const uint8_t *order, size_t order_len, uint8_t *record,
                      size_t record_len);

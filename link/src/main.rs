@@ -196,7 +196,7 @@ mod test {
         let drawn = |timeout: u32| TransportParameters {
             max_idle_timeout: timeout.into(),
             grease_transport_parameter: Some(ReservedTransportParameter::new(27u32.into(), b"cue").unwrap()),
-            write_order: Some(std::array::from_fn(|i| 20 - i as u8)),
+            write_order: Some(std::array::from_fn(|i| 21 - i as u8)),
             ..Default::default()
         };
         let (a, b) = (drawn(1), drawn(2));

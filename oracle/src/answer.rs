@@ -39,6 +39,16 @@ pub enum Op {
 }
 
 impl Op {
+    /// Whether it takes an extension.
+    pub fn takes_extension(self) -> bool {
+        matches!(self, Op::Read | Op::Tidy | Op::TidyTwice | Op::Report | Op::Rearranged | Op::TidyRearranged)
+    }
+
+    /// Whether it takes a record, or two.
+    pub fn takes_record(self) -> bool {
+        matches!(self, Op::Write | Op::Resume | Op::Issue | Op::Check | Op::Length | Op::Authenticate)
+    }
+
     pub const ALL: [(Op, &'static str); 21] = [
         (Op::NumberSize, "number_size"),
         (Op::NumberRead, "number_read"),

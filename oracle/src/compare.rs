@@ -5,6 +5,7 @@ use std::{cell::Cell, time::Instant};
 use crate::{
     answer::{Answer, Case, Op},
     due::{self, By, REQUESTS},
+    image::{self, RECORD, Versions},
     inputs::{self, Dice, EDGES},
     kinds::KINDS,
     library,
@@ -61,15 +62,17 @@ fn show(c: &Case, want: &Answer, got: &library::Called) {
 /// A difference planted on the library's side: in `read`, as if 20, the largest ack_delay_exponent, were 19; of a rearranged extension, as if the
 /// parameter at its front had to stay there; in `order_fault`, as if the earlier copy of a repeated entry were at fault; in resumption, as if an
 /// absent datagram size counted below 0; in authentication, as if a server looked at original_dst_cid; in tidying twice, as if 11 and 12 were
-/// exchanged; in `report`, as if a restated default were counted among the bytes saved; in each other operation, one bit of one answer, that of the 100th
-/// call that was accepted (the first of `default`, which has few). In `number_read` it is a bit of the bytes saved, in `write` of the byte before the
-/// output, in `tidy` of the byte behind it.
+/// exchanged; in `report`, as if a restated default were counted among the bytes saved; in `check`, as if a server did not look for the chosen version; in each
+/// other operation, one bit of one answer, that of the 100th call that was accepted (the first of `default`, which has few). In `number_read` it is a bit of
+/// the bytes saved, in `write` of the byte before the output, in `tidy` of the byte behind it.
 fn plant(c: &Case, nth: u64, got: &mut library::Called) {
     let now = nth == if c.op == Op::Default { 1 } else { 100 };
     match c.op {
         Op::OrderFault => got.number = c.x.iter().position(|p| c.x.get(got.number as usize) == Some(p)).map_or(got.number, |i| i as u64),
         Op::TidyTwice if got.code == 11 || got.code == 12 => got.code = 23 - got.code,
         Op::TidyTwice => {}
+        Op::Check if got.code == 2 => *got = library::call(&Case { x: &with_chosen(c.x), ..*c }),
+        Op::Check => {}
         _ if got.code != 0 => {}
         Op::Read if got.output()[64..72] == 20u64.to_be_bytes() => *got = library::refused(2),
         Op::Read => {}
@@ -86,7 +89,7 @@ fn plant(c: &Case, nth: u64, got: &mut library::Called) {
         }
         _ if !now => {}
         Op::NumberSize | Op::Issue | Op::Length => got.number ^= 1,
-        Op::Check | Op::CheckOrder => got.code ^= 1,
+        Op::CheckOrder => got.code ^= 1,
         Op::NumberRead => got.flip(15),
         Op::Write => got.flip(-1),
         Op::Tidy => got.flip(c.room as isize),
@@ -94,8 +97,15 @@ fn plant(c: &Case, nth: u64, got: &mut library::Called) {
     }
 }
 
+/// A record's image, with its chosen version among the available ones.
+fn with_chosen(image: &[u8]) -> [u8; RECORD] {
+    let mut p = image::to_record(image);
+    p.versions = p.versions.map(|v| Versions::of(&[v.value(), &v.value()[..4]].concat()[..68.min(v.value().len() + 4)]));
+    image::of_record(&p)
+}
+
 /// The parts of the documented run.
-const PARTS: [(&str, fn(&mut Suite)); 30] = [
+const PARTS: [(&str, fn(&mut Suite)); 32] = [
     ("default", |s| s.default()),
     ("shown", |s| s.shown()),
     ("real", |s| s.real(1, 500_000)),
@@ -109,13 +119,13 @@ const PARTS: [(&str, fn(&mut Suite)); 30] = [
     ("generated", |s| s.generated(1_000_000)),
     ("damaged", |s| s.damaged(2_000, 1)),
     ("random", |s| s.random(3_000)),
-    ("records", |s| s.records(1_000_000)),
+    ("records", |s| s.records(1_500_000)),
     ("record_edges", |s| s.record_edges()),
     ("orders", |s| s.orders(100_000)),
     ("order_tests", |s| s.order_tests(1_000_000)),
     ("building", |s| s.building(1_000_000)),
     ("building_refused", |s| s.building_refused(100_000)),
-    ("resumption", |s| s.resumption(500_000)),
+    ("resumption", |s| s.resumption(800_000)),
     ("declined", |s| s.declined(50_000)),
     ("numbers_short", |s| s.numbers_short(3)),
     ("short", |s| s.short(3)),
@@ -124,14 +134,17 @@ const PARTS: [(&str, fn(&mut Suite)); 30] = [
     ("datagram_sizes", |s| s.datagram_sizes(10_000)),
     ("kinds", |s| s.kinds(3)),
     ("alike", |s| s.alike()),
-    ("authentication", |s| s.authentication(200_000)),
+    ("authentication", |s| s.authentication(300_000)),
     ("long_forms", |s| s.long_forms()),
+    ("versions", |s| s.versions(200_000)),
+    ("version_records", |s| s.version_records(200_000)),
 ];
 
 /// The refusals that quinn does not tell apart: its Malformed, and its one error for connection IDs.
 const TOLD_APART: [(u8, &str); 5] = [KINDS[0], KINDS[1], KINDS[2], (13, "13: ID absent"), (14, "14: mismatch")];
 
-/// How many inputs of a request were skipped in the run against quinn, and to how many of them quinn gives another answer than the one due.
+/// How many inputs of a request were skipped in the run against quinn, and to how many of them quinn gives another answer than the one due. Of those with
+/// version information that is not asked.
 #[derive(Default, Clone, Copy)]
 struct Skipped {
     all: u64,
@@ -213,7 +226,7 @@ impl Counts {
         if let Some(i) = REQUESTS.iter().position(|(request, _)| *request == by.request()) {
             t.requests += 1;
             self.skipped[i].all += 1;
-            self.skipped[i].parted += due::is_parted(c, want) as u64;
+            self.skipped[i].parted += (!matches!(by, By::Request09) && due::is_parted(c, want)) as u64;
         }
         if let By::Quinn = by {
             t.quinn += 1;
@@ -236,7 +249,8 @@ impl Counts {
         sum.line("all");
         println!("{:<60}{:>9}{:>25}", "skipped in the run against quinn", "cases", "quinn answers otherwise");
         for ((request, inputs), n) in REQUESTS.iter().zip(&self.skipped) {
-            println!("{:<60}{:>9}{:>25}", format!("{request:02}: {inputs}"), n.all, n.parted);
+            let parted = if *request == 9 { "not asked".to_owned() } else { n.parted.to_string() };
+            println!("{:<60}{:>9}{parted:>25}", format!("{request:02}: {inputs}"), n.all);
         }
         self.print_told_apart();
         println!("{:<16}{:>12}{:>18}{:>26}", "rearranged of", "orders", "with unknown ones", "of these, in longer forms");

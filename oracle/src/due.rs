@@ -1,14 +1,16 @@
 //! The answer that is due to a case: quinn's; where quinn has none, or parts from the product, the one that document 01 or 02 gives. Of an extension that
-//! quinn calls Malformed the kind is due, and of connection IDs that it refuses whether one is absent; of what it reads also where the bytes go.
+//! quinn calls Malformed the kind is due, and of connection IDs that it refuses whether one is absent; of what it reads also where the bytes go. What has version
+//! information is put to quinn without it.
 
 use crate::{
     VarInt,
     answer::{Answer, Case, Op},
     coding::BufExt,
     counts,
-    image::{self, CATALOGUE_ORDER},
-    kinds, rust,
+    image::{self, PLACES, RECORD, VERSIONS, Versions},
+    inputs, kinds, rust,
     transport_parameters::TransportParameters,
+    versions,
 };
 
 /// Who says what is due to a case.
@@ -22,19 +24,25 @@ pub enum By {
     Request02(usize),
     /// Request 05, where quinn is not asked: the cached datagram size is 0 and the new one absent.
     Request05,
+    /// Request 09, where quinn is asked of the rest: the extension, or a record, has version information.
+    Request09,
 }
 
 /// The requests that part product and quinn, and the inputs on which quinn is not asked.
-pub const REQUESTS: [(u8, &str); 2] =
-    [(2, "extensions that repeat grease_quic_bit or min_ack_delay"), (5, "resumption from a datagram size of 0 to an absent one")];
+pub const REQUESTS: [(u8, &str); 3] = [
+    (2, "extensions that repeat grease_quic_bit or min_ack_delay"),
+    (5, "resumption from a datagram size of 0 to an absent one"),
+    (9, "extensions and records with version information"),
+];
 
 impl By {
-    /// The request that gives the answer here, quinn not being asked; 0 if none does.
+    /// The request that gives the answer here, quinn not being asked of the case as it is; 0 if none does.
     pub fn request(self) -> u8 {
         match self {
             By::Quinn | By::Documents => 0,
             By::Request02(_) => 2,
             By::Request05 => 5,
+            By::Request09 => 9,
         }
     }
 }
@@ -43,10 +51,19 @@ pub fn by(c: &Case) -> By {
     match c.op {
         _ if c.declined != 0 => By::Documents,
         Op::CheckOrder | Op::OrderFault => By::Documents,
-        Op::Read | Op::Tidy | Op::TidyTwice | Op::Report => second_copy(c.x).map_or(By::Quinn, By::Request02),
+        _ if has_versions(c) => By::Request09,
+        op if op.takes_extension() => second_copy(c.x).map_or(By::Quinn, By::Request02),
         Op::Resume if size(c.x).is_none() && size(c.y) == Some(VarInt(0)) => By::Request05,
         _ => By::Quinn,
     }
+}
+
+fn has_versions(c: &Case) -> bool {
+    if c.op.takes_extension() {
+        return versions::struck(c.x).is_some();
+    }
+    let is_with = |image: &[u8]| image::to_record(image).versions.is_some();
+    c.op.takes_record() && (is_with(c.x) || c.op == Op::Resume && is_with(c.y))
 }
 
 /// Where the second grease_quic_bit or min_ack_delay starts, of the two that quinn lets repeat. Only whole parameters count: what is cut
@@ -72,21 +89,14 @@ fn size(image: &[u8]) -> Option<VarInt> {
     image::to_record(image).max_datagram_frame_size
 }
 
-/// Document 01: an order is a permutation of 0 to 20.
-pub fn is_permutation(order: &[u8]) -> bool {
-    let mut places = order.to_vec();
-    places.sort();
-    places == CATALOGUE_ORDER
-}
-
 fn check_order(order: &[u8]) -> u8 {
-    if is_permutation(order) { 0 } else { 6 }
+    if image::is_permutation(order) { 0 } else { 6 }
 }
 
 /// Request 04: the position of the first entry that is out of range or repeats an earlier one; the order's length if entries are only missing.
 fn order_fault(order: &[u8]) -> Option<usize> {
-    let is_wrong = |k: &usize| order[*k] > 20 || order[..*k].contains(&order[*k]);
-    (0..order.len()).find(is_wrong).or((order.len() < 21).then_some(order.len()))
+    let is_wrong = |k: &usize| order[*k] > 21 || order[..*k].contains(&order[*k]);
+    (0..order.len()).find(is_wrong).or((order.len() < PLACES).then_some(order.len()))
 }
 
 fn by_documents(c: &Case) -> Answer {
@@ -114,12 +124,64 @@ pub fn by_request_05(c: &Case) -> Answer {
     rust::answer(&Case { x: &with_size(c.x), y: &with_size(c.y), ..*c })
 }
 
+/// Request 09: the rest is put to quinn, as it would be if there were no version information, which is then added to what is accepted.
+fn by_request_09(c: &Case) -> Answer {
+    let (x, value) = if c.op.takes_extension() {
+        versions::struck(c.x).expect("it names version information")
+    } else {
+        (without_versions(c.x), image::to_record(c.x).versions.map(|v| v.value().to_vec()))
+    };
+    let y = if c.op == Op::Resume { without_versions(c.y) } else { c.y.to_vec() };
+    let rest = Case { x: &x, y: &y, ..*c };
+    let a = answer_of(by(&rest), &rest);
+    match value {
+        Some(value) if a.code == 0 => with_versions(c, &value, a),
+        _ => a,
+    }
+}
+
+fn without_versions(image: &[u8]) -> Vec<u8> {
+    [&image[..VERSIONS], &[0; RECORD - VERSIONS]].concat()
+}
+
+/// What version information of this value adds: the value rules, which come last with the others; the value in an image; the parameter where bytes are
+/// written, in catalogue order behind all others. Resumption, the issue limit and authentication do not look at it.
+fn with_versions(c: &Case, value: &[u8], a: Answer) -> Answer {
+    let is_server = rust::side(c.number).is_server();
+    if (c.op.takes_extension() || c.op == Op::Check) && !versions::is_allowed(value, is_server) {
+        return Answer::refused(2);
+    }
+    let more = versions::parameter(value);
+    let number = a.number + more.len() as u64;
+    match c.op {
+        Op::Read | Op::Rearranged => {
+            let p = image::to_record(a.due()).with_versions(Some(Versions::of(value)));
+            Answer::stored(0, &image::of_record(&p))
+        }
+        Op::Tidy | Op::TidyTwice | Op::TidyRearranged => Answer::stored(number, &[a.due(), &more].concat()),
+        Op::Write => {
+            let (before, behind) = a.due().split_at(before_versions(c.x, a.due()));
+            Answer::stored(number, &[before, &more, behind].concat())
+        }
+        Op::Report | Op::Length => Answer { number, ..a },
+        _ => a,
+    }
+}
+
+/// How many of the bytes that are written stand before version information in a record's order: all, if it has none.
+fn before_versions(image: &[u8], written: &[u8]) -> usize {
+    let Some(order) = image::to_record(image).order() else { return written.len() };
+    let before = order.split(|place| *place == 21).next().unwrap();
+    let parameters = inputs::parameters(written);
+    parameters.iter().filter(|p| before.contains(&image::place(p.id))).map(|p| p.bytes.len()).sum()
+}
+
 /// Request 06: what quinn calls Malformed is one of three kinds, and nothing else is.
 fn in_kinds(c: &Case, a: Answer) -> Answer {
-    let kind = match c.op {
-        Op::Read | Op::Tidy | Op::TidyTwice | Op::Report | Op::Rearranged | Op::TidyRearranged => kinds::kind(c.x),
-        _ => return a,
-    };
+    if !c.op.takes_extension() {
+        return a;
+    }
+    let kind = kinds::kind(c.x);
     assert_eq!(kind.is_some(), a.code == 1, "10, 11 or 12 is due exactly where quinn says Malformed: {:02x?}", c.x);
     kind.map_or(a, Answer::refused)
 }
@@ -131,7 +193,7 @@ fn in_stages(c: &Case, a: Answer) -> Answer {
         return a;
     }
     let (side, seen) = rust::seen(c);
-    let TransportParameters { initial_src_cid, original_dst_cid, retry_src_cid, .. } = image::to_record(c.x);
+    let TransportParameters { initial_src_cid, original_dst_cid, retry_src_cid, .. } = *image::to_record(c.x);
     let looked_at = if side.is_client() { 3 } else { 1 };
     let is_absent = (0..looked_at).any(|i| seen[i].is_some() && [initial_src_cid, original_dst_cid, retry_src_cid][i].is_none());
     assert!(a.code != 0 || !is_absent, "quinn accepts nothing that lacks an ID which is needed");
@@ -161,17 +223,23 @@ fn in_room(c: &Case, a: Answer) -> Answer {
     if c.room < a.len { Answer::refused(5) } else { a }
 }
 
-pub fn answer_by(by: By, c: &Case) -> Answer {
-    let a = match by {
+/// With quinn's refusals, and all the room that is needed.
+fn answer_of(by: By, c: &Case) -> Answer {
+    match by {
         By::Quinn => rust::answer(c),
         By::Documents => by_documents(c),
         By::Request02(start) => by_request_02(c, start),
         By::Request05 => by_request_05(c),
-    };
-    in_room(c, in_counts(c, in_stages(c, in_kinds(c, a))))
+        By::Request09 => by_request_09(c),
+    }
 }
 
-/// Whether quinn itself gives another answer than the one due, to a reading or a resumption. All three kinds count as its Malformed.
+pub fn answer_by(by: By, c: &Case) -> Answer {
+    in_room(c, in_counts(c, in_stages(c, in_kinds(c, answer_of(by, c)))))
+}
+
+/// Whether quinn itself gives another answer than the one due, to a reading or a resumption without version information. All three kinds count as its
+/// Malformed.
 pub fn is_parted(c: &Case, want: &Answer) -> bool {
     let a = in_room(c, rust::answer(c));
     (a.code, a.number, a.due()) != (kinds::by_quinn(want.code), want.number, want.due())

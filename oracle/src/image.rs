@@ -1,6 +1,9 @@
 //! The image of a record and of a connection ID (bindings/c/yuthpram.h), to and from quinn's types.
 
-use std::net::{SocketAddrV4, SocketAddrV6};
+use std::{
+    net::{SocketAddrV4, SocketAddrV6},
+    ops::{Deref, DerefMut},
+};
 
 use crate::{
     ResetToken, VarInt,
@@ -12,7 +15,110 @@ use crate::{
 };
 
 pub const CID: usize = 21;
-pub const RECORD: usize = 303;
+pub const RECORD: usize = 374;
+
+/// Where an image's order and its version information stand.
+const ORDER: usize = 281;
+pub const VERSIONS: usize = 304;
+
+/// How many places an order has.
+pub const PLACES: usize = 22;
+
+/// The identifiers by place; that of the reserved parameter, place 11, is drawn, and the least one stands for it.
+const IDS: [u64; PLACES] = [
+    0x01, 0x03, 0x04, 0x05, 0x06, 0x07, 0x08, 0x09, 0x0a, 0x0b, 0x0e, 27, 0x02, 0x0c, 0x20, 0x0d, 0x00, 0x0f, 0x10, 0x2ab2, 0xff04de1b,
+    0x11,
+];
+
+/// The place of an identifier that is written.
+pub fn place(id: u64) -> u8 {
+    IDS.iter().position(|known| *known == id).unwrap_or(11) as u8
+}
+
+pub const CATALOGUE_ORDER: [u8; PLACES] = [0, 1, 2, 3, 4, 5, 6, 7, 8, 9, 10, 11, 12, 13, 14, 15, 16, 17, 18, 19, 20, 21];
+
+/// Documents 01 and 02: an order is a permutation of 0 to 21.
+pub fn is_permutation(order: &[u8]) -> bool {
+    let mut places = order.to_vec();
+    places.sort();
+    places == CATALOGUE_ORDER
+}
+
+/// Version information: the value on the wire, as which it stands in an image too, zeros behind it.
+#[derive(Clone, Copy)]
+pub struct Versions {
+    bytes: [u8; 68],
+    len: usize,
+}
+
+impl Versions {
+    /// Of a value that fits.
+    pub fn of(value: &[u8]) -> Self {
+        let mut bytes = [0; 68];
+        bytes[..value.len()].copy_from_slice(value);
+        Versions { bytes, len: value.len() }
+    }
+
+    pub fn value(&self) -> &[u8] {
+        &self.bytes[..self.len]
+    }
+}
+
+/// A record: quinn's, and what quinn does not have, version information and its place in the order.
+#[derive(Clone, Copy)]
+pub struct Record {
+    quinn: TransportParameters,
+    pub versions: Option<Versions>,
+    /// the position of place 21, if there is an order: quinn has it with that place struck
+    position: usize,
+}
+
+impl From<TransportParameters> for Record {
+    fn from(quinn: TransportParameters) -> Self {
+        Record { quinn, versions: None, position: PLACES - 1 }
+    }
+}
+
+impl Deref for Record {
+    type Target = TransportParameters;
+    fn deref(&self) -> &TransportParameters {
+        &self.quinn
+    }
+}
+
+impl DerefMut for Record {
+    fn deref_mut(&mut self) -> &mut TransportParameters {
+        &mut self.quinn
+    }
+}
+
+impl Record {
+    pub fn with_versions(self, versions: Option<Versions>) -> Self {
+        Record { versions, ..self }
+    }
+
+    pub fn in_order(mut self, order: Option<[u8; PLACES]>) -> Self {
+        self.position = order.map_or(PLACES - 1, |order| position(&order));
+        self.write_order = order.map(|order| struck(&order));
+        self
+    }
+
+    pub fn order(&self) -> Option<[u8; PLACES]> {
+        let (before, behind) = self.write_order.as_ref()?.split_at(self.position);
+        Some([before, &[21], behind].concat().try_into().unwrap())
+    }
+}
+
+/// The position of place 21 in an order.
+fn position(order: &[u8]) -> usize {
+    order.iter().position(|place| *place == 21).expect("a permutation has every place")
+}
+
+/// An order of quinn's places: place 21 is struck.
+fn struck(order: &[u8]) -> [u8; PLACES - 1] {
+    let left: Vec<u8> = order.iter().copied().filter(|place| *place != 21).collect();
+    left.try_into().expect("one place is struck")
+}
 
 /// The numbers of catalogue places 0 to 10.
 pub fn numbers(p: &mut TransportParameters) -> [&mut VarInt; 11] {
@@ -75,9 +181,9 @@ impl Filler {
     }
 }
 
-pub fn of_record(p: &TransportParameters) -> [u8; RECORD] {
+pub fn of_record(p: &Record) -> [u8; RECORD] {
     let mut f = Filler { image: [0; RECORD], at: 0 };
-    for x in numbers(&mut p.clone()) {
+    for x in numbers(&mut p.quinn.clone()) {
         f.bytes(&x.0.to_be_bytes());
     }
     f.flag(p.disable_active_migration);
@@ -113,10 +219,18 @@ pub fn of_record(p: &TransportParameters) -> [u8; RECORD] {
         f.bytes(&[payload.len() as u8]);
         f.bytes(&payload);
     }
-    f.at = 281;
-    f.optional(p.write_order.as_ref().map(|o| &o[..]), 21);
+    f.at = ORDER;
+    f.optional(p.order().as_ref().map(|o| &o[..]), PLACES);
+    put_versions(p.versions.as_ref(), &mut f);
     assert_eq!(f.at, RECORD);
     f.image
+}
+
+/// The number of available versions stands before all of them.
+fn put_versions(v: Option<&Versions>, f: &mut Filler) {
+    f.flag(v.is_some());
+    f.bytes(&[v.map_or(0, |v| v.len / 4 - 1) as u8]);
+    f.bytes(&v.map_or([0; 68], |v| v.bytes));
 }
 
 /// Takes an image from the front.
@@ -160,10 +274,10 @@ impl<'a> Taker<'a> {
     }
 }
 
-/// The record of a well-formed image.
-pub fn to_record(image: &[u8]) -> TransportParameters {
+/// The record of a well-formed image. An order that is no permutation is left out.
+pub fn to_record(image: &[u8]) -> Record {
     let mut t = Taker(image);
-    let mut p = TransportParameters::default();
+    let mut p = Record::from(TransportParameters::default());
     for x in numbers(&mut p) {
         *x = t.number();
     }
@@ -186,8 +300,12 @@ pub fn to_record(image: &[u8]) -> TransportParameters {
     if present {
         p.grease_transport_parameter = Some(reserved(id.0, &payload[..len as usize]));
     }
-    p.write_order = t.optional(Taker::array);
-    p
+    let order = t.optional(Taker::array::<PLACES>).filter(|order| is_permutation(order));
+    p.versions = t.optional(|t| {
+        let value = 4 + 4 * t.bytes(1)[0] as usize;
+        Versions::of(&t.bytes(68)[..value])
+    });
+    p.in_order(order)
 }
 
 /// quinn's reserved parameter keeps its fields to itself: it is made by building from the draw that gives this identifier.
@@ -208,8 +326,6 @@ fn reserved_parts(r: ReservedTransportParameter) -> (u64, Vec<u8>) {
     (id, rest.to_vec())
 }
 
-pub const CATALOGUE_ORDER: [u8; 21] = [0, 1, 2, 3, 4, 5, 6, 7, 8, 9, 10, 11, 12, 13, 14, 15, 16, 17, 18, 19, 20];
-
 struct Generator(usize);
 
 impl ConnectionIdGenerator for Generator {
@@ -218,8 +334,8 @@ impl ConnectionIdGenerator for Generator {
     }
 }
 
-/// `TransportParameters::new` on the settings of the C interface and the drawn values.
-pub fn build(s: &[u64; 12], cid: ConnectionId, draw: u64, payload: &[u8], order: &[u8]) -> TransportParameters {
+/// `TransportParameters::new` on the settings of the C interface and the drawn values. quinn draws the order with place 21 struck.
+pub fn build(s: &[u64; 12], cid: ConnectionId, draw: u64, payload: &[u8], order: &[u8]) -> Record {
     let number = |i: usize| VarInt::from_u64(s[i]).unwrap();
     let config = TransportConfig {
         max_concurrent_bidi_streams: number(0),
@@ -232,6 +348,7 @@ pub fn build(s: &[u64; 12], cid: ConnectionId, draw: u64, payload: &[u8], order:
     let endpoint = EndpointConfig { max_udp_payload_size: number(5), grease_quic_bit: s[6] != 0 };
     let server = (s[10] != 0).then_some(ServerConfig { migration: s[11] != 0 });
     let numbers = [draw, payload.len() as u64];
-    let mut drawn = rand::Drawn { numbers: &numbers, bytes: payload, order };
-    TransportParameters::new(&config, &endpoint, &Generator(s[9] as usize), cid, server.as_ref(), &mut drawn)
+    let mut drawn = rand::Drawn { numbers: &numbers, bytes: payload, order: &struck(order) };
+    let built = TransportParameters::new(&config, &endpoint, &Generator(s[9] as usize), cid, server.as_ref(), &mut drawn);
+    Record { position: position(order), ..built.into() }
 }

@@ -1,6 +1,13 @@
 //! Generated inputs: extensions, records, settings. All follow from a seed.
 
-use crate::{VarInt, coding::BufExt, image, shared::ConnectionId, transport_parameters::*};
+use crate::{
+    VarInt,
+    coding::BufExt,
+    image::{self, PLACES, RECORD, Record, VERSIONS, Versions},
+    shared::ConnectionId,
+    transport_parameters::*,
+    versions,
+};
 use std::net::{SocketAddrV4, SocketAddrV6};
 
 pub const MAX: u64 = (1 << 62) - 1;
@@ -54,15 +61,15 @@ pub const EDGES: [u64; 44] = [
 ];
 
 /// The known identifiers: first those of plain numbers.
-pub const KNOWN: [u64; 20] =
-    [0x01, 0x03, 0x04, 0x05, 0x06, 0x07, 0x08, 0x09, 0x0a, 0x0b, 0x0e, 0x20, 0xff04de1b, 0x02, 0x0c, 0x0d, 0x00, 0x0f, 0x10, 0x2ab2];
+pub const KNOWN: [u64; 21] =
+    [0x01, 0x03, 0x04, 0x05, 0x06, 0x07, 0x08, 0x09, 0x0a, 0x0b, 0x0e, 0x20, 0xff04de1b, 0x02, 0x0c, 0x0d, 0x00, 0x0f, 0x10, 0x2ab2, 0x11];
 
 /// How many of the known ones hold a number.
 pub const NUMBERS: usize = 13;
 
 /// Identifiers that are unknown: reserved ones, and neighbours of known ones.
-const UNKNOWN: [u64; 14] =
-    [0x1b, 0x3a, 0x11, 0x12, 0x1a, 0x1f, 0x21, 0x3f, 0x2ab1, 0x2ab3, 0xff04de1a, 0xff04de1c, 31 * 148_764_065_110_560_899 + 27, MAX];
+const UNKNOWN: [u64; 13] =
+    [0x1b, 0x3a, 0x12, 0x1a, 0x1f, 0x21, 0x3f, 0x2ab1, 0x2ab3, 0xff04de1a, 0xff04de1c, 31 * 148_764_065_110_560_899 + 27, MAX];
 
 /// A generator of random numbers (splitmix64).
 pub struct Dice(pub u64);
@@ -104,7 +111,7 @@ impl Dice {
         }
     }
 
-    pub fn permutation(&mut self) -> [u8; 21] {
+    pub fn permutation(&mut self) -> [u8; PLACES] {
         let mut order = image::CATALOGUE_ORDER;
         self.shuffle(&mut order);
         order
@@ -183,6 +190,48 @@ fn address(d: &mut Dice) -> Vec<u8> {
     v
 }
 
+/// A version: one that is used, one with a single bit, or any.
+fn version(d: &mut Dice) -> [u8; 4] {
+    match d.below(3) {
+        0 => d.of(&[1u32, 2, 0x6b33_43cf, 0x7090_9a0a, 0xff00_001d, 0x0a1a_2a3a, u32::MAX]).to_be_bytes(),
+        1 => (1u32 << d.below(32)).to_be_bytes(),
+        _ => d.bytes(),
+    }
+}
+
+/// The value of version information; now and then of another length, with a version of 0, or with a chosen one that is not available.
+fn version_information(d: &mut Dice) -> Vec<u8> {
+    if d.one_in(12) {
+        return (0..d.below(81)).map(|_| d.next() as u8).collect();
+    }
+    let mut all: Vec<[u8; 4]> = (0..d.below(17)).map(|_| version(d)).collect();
+    let chosen = if all.is_empty() || d.one_in(12) { version(d) } else { d.of(&all) };
+    all.insert(0, chosen);
+    if d.one_in(12) {
+        let at = d.below(all.len());
+        all[at] = [0; 4];
+    }
+    all.concat()
+}
+
+/// Values of version information at the edges: of every length; of each number of available versions one with a 0 at each place, and one with the chosen
+/// version at each place alone, or at none, where the others differ from it in one bit.
+pub fn version_edges(d: &mut Dice) -> Vec<Vec<u8>> {
+    let mut all: Vec<Vec<u8>> = (0..=80).map(|len| vec![7; len]).collect();
+    for n in 0..=16 {
+        for at in 0..=n {
+            let mut with_zero = vec![version(d); 1 + n];
+            with_zero[at] = [0; 4];
+            let chosen: [u8; 4] = d.bytes();
+            let mut with_chosen: Vec<[u8; 4]> = (0..=n).map(|_| (u32::from_be_bytes(chosen) ^ 1 << d.below(32)).to_be_bytes()).collect();
+            with_chosen[0] = chosen;
+            with_chosen[at] = chosen;
+            all.extend([with_zero.concat(), with_chosen.concat()]);
+        }
+    }
+    all
+}
+
 /// A value for an identifier: one that fits, more often than not.
 pub fn value(d: &mut Dice, id: u64) -> Vec<u8> {
     let rough = d.one_in(40);
@@ -195,6 +244,7 @@ pub fn value(d: &mut Dice, id: u64) -> Vec<u8> {
         0x02 => v.extend(&d.bytes::<24>()[..if rough { d.below(25) } else { 16 }]),
         0x0c | 0x2ab2 => v.extend(&d.bytes::<2>()[..if rough { d.below(3) } else { 0 }]),
         0x0d => v = address(d),
+        versions::ID => v = version_information(d),
         _ if KNOWN.contains(&id) => {
             let x = likely_number(d, id);
             put_number(&mut v, x, form(d));
@@ -220,7 +270,7 @@ pub fn unknown(d: &mut Dice) -> u64 {
 
 /// An extension with these known parameters (bits of `mask`), in random order, unknown ones in between, now and then a second copy.
 pub fn extension(d: &mut Dice, mask: u32) -> Vec<u8> {
-    let mut ids: Vec<u64> = (0..20).filter(|i| mask >> i & 1 == 1).map(|i| KNOWN[i]).collect();
+    let mut ids: Vec<u64> = (0..KNOWN.len()).filter(|i| mask >> i & 1 == 1).map(|i| KNOWN[i]).collect();
     for _ in 0..d.below(3) {
         ids.push(unknown(d));
     }
@@ -285,10 +335,15 @@ fn values(x: &[u8]) -> Vec<(u64, Vec<u8>)> {
 }
 
 /// The parameters of one extension, now and then with some of another, shuffled, in any forms; one or the other dropped, doubled, given
-/// another value, or joined by one more.
+/// another value, or joined by one more. Half of the time without version information.
 pub fn mixed(d: &mut Dice, all: &[Vec<u8>]) -> Vec<u8> {
     let mut kept = values(&all[d.below(all.len())]);
-    let others = values(&all[d.below(all.len())]);
+    let mut others = values(&all[d.below(all.len())]);
+    if d.one_in(2) {
+        for values in [&mut kept, &mut others] {
+            values.retain(|(id, _)| *id != versions::ID);
+        }
+    }
     match d.below(6) {
         0 => kept.truncate(d.below(kept.len() + 1)),
         1 => kept.push(d.of(&kept)),
@@ -315,7 +370,7 @@ pub fn mixed(d: &mut Dice, all: &[Vec<u8>]) -> Vec<u8> {
     out
 }
 
-/// A mask of known parameters: few, some or nearly all; often only what a client may send.
+/// A mask of known parameters: few, some or nearly all; often only what a client may send, often no version information.
 pub fn mask(d: &mut Dice) -> u32 {
     let m = d.next() as u32;
     let m = match d.below(4) {
@@ -324,7 +379,8 @@ pub fn mask(d: &mut Dice) -> u32 {
         _ => m,
     };
     let server_only = 1 << 13 | 1 << 15 | 1 << 16 | 1 << 18;
-    if d.one_in(2) { m & !server_only } else { m }
+    let m = if d.one_in(2) { m & !server_only } else { m };
+    if d.one_in(2) { m & !(1 << 20) } else { m }
 }
 
 pub fn cid(d: &mut Dice) -> ConnectionId {
@@ -336,8 +392,8 @@ fn maybe<T>(d: &mut Dice, x: impl FnOnce(&mut Dice) -> T) -> Option<T> {
 }
 
 /// A well-formed record: every field present or absent, numbers of every width and at every edge. `legal` asks for likely numbers.
-pub fn record(d: &mut Dice, legal: bool) -> TransportParameters {
-    let mut p = TransportParameters::default();
+pub fn record(d: &mut Dice, legal: bool) -> Record {
+    let mut p = Record::from(TransportParameters::default());
     let number = |d: &mut Dice, id| VarInt(if legal { likely_number(d, id) } else { d.number() });
     for (x, id) in image::numbers(&mut p).into_iter().zip(KNOWN) {
         if !d.one_in(3) {
@@ -378,7 +434,31 @@ pub fn record(d: &mut Dice, legal: bool) -> TransportParameters {
         };
         image::reserved(id, &d.bytes::<16>()[..d.below(17)])
     });
-    p.write_order = maybe(d, Dice::permutation);
+    // often none, so that quinn can be asked
+    if d.one_in(3) {
+        p.versions = Some(version_information(d)).filter(|v| versions::fits(v)).map(|v| Versions::of(&v));
+    }
+    p.in_order(maybe(d, Dice::permutation))
+}
+
+/// A well-formed record that has everything, as long as it can be.
+pub fn longest() -> Record {
+    let id = ConnectionId::new(&[1; 20]);
+    let mut p = Record::from(TransportParameters::default());
+    image::numbers(&mut p).into_iter().for_each(|x| x.0 = MAX);
+    p.disable_active_migration = true;
+    p.grease_quic_bit = true;
+    (p.max_datagram_frame_size, p.min_ack_delay) = (Some(VarInt(MAX)), Some(VarInt(MAX)));
+    (p.original_dst_cid, p.initial_src_cid, p.retry_src_cid) = (Some(id), Some(id), Some(id));
+    p.stateless_reset_token = Some([2; 16].into());
+    p.preferred_address = Some(PreferredAddress {
+        address_v4: Some(SocketAddrV4::new([3; 4].into(), 4)),
+        address_v6: Some(SocketAddrV6::new([5; 16].into(), 6, 0, 0)),
+        connection_id: id,
+        stateless_reset_token: [7; 16].into(),
+    });
+    p.versions = Some(Versions::of(&[8; 68]));
+    p.grease_transport_parameter = Some(image::reserved(MAX - (MAX - 27) % 31, &[9; 16]));
     p
 }
 
@@ -426,24 +506,24 @@ impl Plan {
             },
             payload: d.bytes::<15>()[..d.below(16)].to_vec(),
             order: d.permutation().to_vec(),
-            room: if d.one_in(16) { d.of(&[0, 302, 304]) } else { image::RECORD },
+            room: if d.one_in(16) { d.of(&[0, RECORD - 1, RECORD + 1]) } else { RECORD },
         }
     }
 }
 
 /// How many ways there are to spoil a record.
-pub const SPOILS: usize = 17;
+pub const SPOILS: usize = 20;
 
 /// Makes the image of a well-formed record that of a record that is not, in way `i`.
-pub fn spoil(d: &mut Dice, i: usize, x: &mut [u8; image::RECORD]) {
+pub fn spoil(d: &mut Dice, i: usize, x: &mut [u8; RECORD]) {
     let bit = 1 << d.below(8);
     // where an optional field stands: its flag, and its length behind it
-    let absent = |d: &mut Dice, x: &mut [u8; image::RECORD], at: usize, len: usize| {
+    let absent = |d: &mut Dice, x: &mut [u8; RECORD], at: usize, len: usize| {
         x[at..at + 1 + len].fill(0);
         x[at + 1 + d.below(len)] = bit;
     };
     let cid = d.of(&[109, 131, 153, 218]);
-    let present = |x: &mut [u8; image::RECORD]| x[if cid == 218 { 191 } else { cid - 1 }] = 1;
+    let present = |x: &mut [u8; RECORD]| x[if cid == 218 { 191 } else { cid - 1 }] = 1;
     match i % SPOILS {
         0 => x[8 * d.below(11)] = 0x40 << d.below(2),
         1 => {
@@ -509,7 +589,20 @@ pub fn spoil(d: &mut Dice, i: usize, x: &mut [u8; image::RECORD]) {
             let len = x[264] as usize;
             x[265 + len + d.below(16 - len)] = bit;
         }
-        15 => x[d.of(&[88, 89, 90, 99, 108, 130, 152, 174, 191, 255])] = 2 + d.below(254) as u8,
-        _ => absent(d, x, 281, 21),
+        15 => x[d.of(&[88, 89, 90, 99, 108, 130, 152, 174, 191, 255, VERSIONS])] = 2 + d.below(254) as u8,
+        16 => absent(d, x, VERSIONS, 69),
+        17 => {
+            x[VERSIONS] = 1;
+            x[VERSIONS + 1] = 17 + d.below(239) as u8;
+        }
+        18 => {
+            // a version behind the last one
+            x[VERSIONS..].fill(0);
+            x[VERSIONS] = 1;
+            x[VERSIONS + 1] = d.below(16) as u8;
+            let unused = VERSIONS + 6 + 4 * x[VERSIONS + 1] as usize;
+            x[unused + d.below(RECORD - unused)] = bit;
+        }
+        _ => absent(d, x, 281, PLACES),
     }
 }

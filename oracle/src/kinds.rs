@@ -1,6 +1,6 @@
 //! Request 06: which kind of malformed an extension is. quinn tells no kinds, so this is a plain reading of documents 01 and 02.
 
-use crate::{coding::BufExt, inputs::KNOWN};
+use crate::{coding::BufExt, inputs::KNOWN, versions};
 
 /// The kinds, by number.
 pub const KINDS: [(u8, &str); 3] = [(10, "10: cut off"), (11, "11: misfit"), (12, "12: second copy")];
@@ -32,7 +32,7 @@ pub fn by_quinn(code: u8) -> u8 {
 }
 
 /// The identifier and the value of the parameter at the front, and what is behind it, if it is whole.
-fn whole(mut x: &[u8]) -> Option<(u64, &[u8], &[u8])> {
+pub fn whole(mut x: &[u8]) -> Option<(u64, &[u8], &[u8])> {
     let id = x.get_var().ok()?;
     let len = x.get_var().ok()?;
     let (value, rest) = x.split_at_checked(usize::try_from(len).ok()?)?;
@@ -45,6 +45,7 @@ fn fits(id: u64, value: &[u8]) -> Option<bool> {
         0x00 | 0x0f | 0x10 => value.len() <= 20,
         0x02 => value.len() == 16,
         0x0c | 0x2ab2 => value.is_empty(),
+        versions::ID => versions::fits(value),
         0x0d => match address_len(value) {
             None => false,
             Some(_) if value[..24].iter().all(|b| *b == 0) => return None,

@@ -9,7 +9,7 @@
 //! | 1 | refusal due, or 0; 10, 11 and 12 of reading, tidying and reports are quinn's Malformed, told apart by request 06; 13 and 14 its one refusal of connection IDs, by 07 |
 //! | 2, 4, 6, 8, 10 | where x, y, z, w and the bytes due end, counted from the head's end |
 //! | 12 | length of the output |
-//! | 14 | the request of document 02 that gives the answer, quinn not being asked; else 0 |
+//! | 14 | the request of document 02 that gives the answer, quinn not being asked of the case as it is; else 0 |
 //! | 15 | the refusal again if the Rust has no answer, else 0 |
 //! | 16 | number of the case (eight bytes) |
 //! | 24 | number due (eight bytes) |
@@ -25,10 +25,14 @@ use std::{
 use crate::{
     answer::{Answer, COUNTS, Case, MOST, NUMBER, Op},
     compare::SEED,
-    due, image,
+    due,
+    image::{self, RECORD, Record, VERSIONS, Versions},
     inputs::{self, Dice, EDGES, KNOWN, MAX},
     library,
+    shared::ConnectionId,
     suite::Suite,
+    transport_parameters::TransportParameters,
+    versions,
 };
 
 impl Suite<'_> {
@@ -100,13 +104,14 @@ impl Suite<'_> {
     /// Each parameter alone: whole, twice, cut by a byte, one byte longer or shorter than its value, empty, with a length that is beyond
     /// the end, with a length that cannot be read.
     pub fn faults(&mut self) {
-        for id in KNOWN.into_iter().chain([0x1b, 0x11]) {
+        for id in KNOWN.into_iter().chain([0x1b, 0x12]) {
             let v = match id {
                 0x00 | 0x0f | 0x10 => vec![7; 20],
                 0x02 => vec![9; 16],
                 0x0c | 0x2ab2 => vec![],
                 0x0d => [&[1; 24][..], &[3, 1, 2, 3], &[5; 16]].concat(),
                 0x0b => vec![25],
+                versions::ID => vec![1; 8],
                 0x03 => vec![0x80, 0, 0xff, 0xff],
                 _ => vec![2],
             };
@@ -155,6 +160,74 @@ impl Suite<'_> {
             self.extension_by(0, &x);
         }
     }
+
+    /// Version information: each length around those that fit; a 0 at each place, and the chosen version at each place alone, or at none; versions of which one
+    /// byte is not 0, or differs; a length that does not fit and is beyond the end.
+    pub fn version_edges(&mut self) {
+        for len in [0, 3, 4, 5, 6, 8, 63, 64, 66, 68, 69, 72] {
+            self.extension(&versions::parameter(&vec![7; len]));
+        }
+        for n in [1, 2, 3, 16] {
+            for at in 0..=n {
+                let (mut with_zero, mut with_chosen) = (vec![7; 4 * (1 + n)], vec![9; 4 * (1 + n)]);
+                with_zero[4 * at..4 * at + 4].fill(0);
+                with_chosen[..4].fill(7);
+                with_chosen[4 * at..4 * at + 4].fill(7);
+                self.extension(&versions::parameter(&with_zero));
+                self.extension(&versions::parameter(&with_chosen));
+            }
+        }
+        for byte in 0..4 {
+            let (mut one, mut other) = ([0; 4], [7; 4]);
+            one[byte] = 1;
+            other[byte] = 6;
+            self.extension(&versions::parameter(&[one, one].concat()));
+            self.extension(&versions::parameter(&[other, [7; 4]].concat()));
+        }
+        self.extension(&[0x11, 0x40, 72, 1]);
+    }
+
+    /// Records of which version information is not well formed, in each way, or not legal; and orders of a place fewer or more.
+    pub fn version_images(&mut self) {
+        let mut p = Record::from(TransportParameters::default());
+        let id = Some(ConnectionId::new(&[7]));
+        (p.initial_src_cid, p.original_dst_cid) = (id, id);
+        let good = image::of_record(&p);
+        for bytes in [
+            &[(VERSIONS, 2)][..],
+            // absent
+            &[(VERSIONS + 1, 1)],
+            &[(VERSIONS + 2, 1)],
+            &[(VERSIONS + 6, 1)],
+            &[(RECORD - 1, 1)],
+            &[(VERSIONS + 1, 1), (VERSIONS + 6, 1)],
+            // too many; one behind the last
+            &[(VERSIONS, 1), (VERSIONS + 1, 17)],
+            &[(VERSIONS, 1), (VERSIONS + 1, 255)],
+            &[(VERSIONS, 1), (VERSIONS + 6, 1)],
+            &[(VERSIONS, 1), (VERSIONS + 1, 15), (RECORD - 1, 1)],
+        ] {
+            let mut x = good;
+            bytes.iter().for_each(|(at, byte)| x[*at] = *byte);
+            self.declined_record(&x, &good, MOST);
+            let ids = [image::of_cid(&id.unwrap()); 2];
+            (self.sink)(&Case { y: &ids[0], z: &ids[1], w: &[0; 21], ..Case::new(Op::Authenticate, 0, &x, 0) }.declined(7));
+        }
+        for value in [&[0; 4][..], &[7; 4], &[7; 8], &[7; 64], &[7; 68]] {
+            let with = p.with_versions(Some(Versions::of(value)));
+            self.record(&with);
+            self.authenticate(0, &with, [id, id, None]);
+            self.authenticate(1, &with, [id, id, None]);
+            let x = image::of_record(&with);
+            (self.sink)(&Case { y: &good, ..Case::new(Op::Resume, 0, &x, 0) });
+            (self.sink)(&Case { y: &x, ..Case::new(Op::Resume, 0, &good, 0) });
+        }
+        for len in 20..24 {
+            let order: Vec<u8> = (0..len).collect();
+            self.case(Op::CheckOrder, 0, &order, 0);
+            self.case(Op::OrderFault, 0, &order, 0);
+        }
+    }
 }
 
 fn entry(c: &Case) -> Vec<u8> {
@@ -184,10 +257,10 @@ fn recorded<'a>(c: &Case<'a>) -> Case<'a> {
 
 pub fn record() {
     // every `step`th case of each part
-    let parts: [(usize, fn(&mut Suite)); 30] = [
+    let parts: [(usize, fn(&mut Suite)); 34] = [
         (1, |s| s.default()),
         (1, |s| s.shown()),
-        (1, |s| s.real(61, 40)),
+        (1, |s| s.real(97, 40)),
         (1, |s| s.number_edges()),
         (4, |s| s.numbers_short(1)),
         (1, |s| s.cid_edges()),
@@ -215,6 +288,10 @@ pub fn record() {
         (1, |s| s.authentication(40)),
         (211, |s| s.forms(&[0, 2, 3, 25, 65527])),
         (7, |s| s.long_forms()),
+        (1, |s| s.version_edges()),
+        (1, |s| s.version_images()),
+        (499, |s| s.versions(200)),
+        (61, |s| s.version_records(100)),
     ];
     let (mut entries, mut bytes) = (0, 0);
     let mut requested = due::REQUESTS.map(|(request, _)| (request, 0));

@@ -13,6 +13,7 @@ mod library;
 mod list;
 mod rust;
 mod suite;
+mod versions;
 
 include!("quinn.rs");
 

@@ -6,9 +6,10 @@ use crate::{
     Connection, Side, VarInt,
     answer::{Answer, Case, MOST, Op},
     coding::Codec,
-    due, image,
+    image,
     shared::ConnectionId,
     transport_parameters::{Error, TransportParameters},
+    versions,
 };
 
 pub fn side(number: u64) -> Side {
@@ -52,8 +53,16 @@ fn unless_it_panics(refusal: u8, answer: impl FnOnce() -> Answer + UnwindSafe) -
     catch_unwind(answer).unwrap_or_else(|_| Answer::refused(refusal))
 }
 
+/// Request 09: quinn is asked of no extension and no record with version information.
 fn read(number: u64, src: &[u8]) -> Result<TransportParameters, Error> {
+    assert!(versions::struck(src).is_none());
     TransportParameters::read(side(number), &mut &src[..])
+}
+
+fn record(image: &[u8]) -> TransportParameters {
+    let p = image::to_record(image);
+    assert!(p.versions.is_none());
+    *p
 }
 
 /// The answer to a case that is put to quinn, with a buffer as long as is needed.
@@ -79,12 +88,12 @@ pub fn answer(c: &Case) -> Answer {
             }
         }
         Op::CidWrite => stored(|out| image::to_cid(c.x).encode_long(out)),
-        Op::Default => Answer::stored(0, &image::of_record(&TransportParameters::default())),
+        Op::Default => Answer::stored(0, &image::of_record(&TransportParameters::default().into())),
         Op::Read | Op::Rearranged => match read(c.number, c.x) {
-            Ok(p) => Answer::stored(0, &image::of_record(&p)),
+            Ok(p) => Answer::stored(0, &image::of_record(&p.into())),
             Err(e) => refusal(e),
         },
-        Op::Write => stored(|out| image::to_record(c.x).write(out)),
+        Op::Write => stored(|out| record(c.x).write(out)),
         Op::New => {
             let mut settings = [0; 12];
             for (s, b) in settings.iter_mut().zip(c.x.chunks(8)) {
@@ -92,13 +101,13 @@ pub fn answer(c: &Case) -> Answer {
             }
             Answer::stored(0, &image::of_record(&image::build(&settings, image::to_cid(c.y), c.number, c.z, c.w)))
         }
-        Op::Resume => match image::to_record(c.x).validate_resumption_from(&image::to_record(c.y)) {
+        Op::Resume => match record(c.x).validate_resumption_from(&record(c.y)) {
             Ok(()) => Answer::refused(0),
             Err(_) => Answer::refused(8),
         },
-        Op::Issue => Answer::number(image::to_record(c.x).issue_cids_limit()),
+        Op::Issue => Answer::number(record(c.x).issue_cids_limit()),
         Op::Check => {
-            let mut p = image::to_record(c.x);
+            let mut p = record(c.x);
             p.grease_transport_parameter = None;
             p.write_order = None;
             let written = stored(|out| p.write(out));
@@ -118,15 +127,11 @@ pub fn answer(c: &Case) -> Answer {
             let (side, seen) = seen(c);
             let mut connection =
                 Connection { side, orig_rem_cid: seen[0].unwrap(), initial_dst_cid: seen[1].unwrap(), retry_src_cid: seen[2] };
-            match connection.authenticate(image::to_record(c.x)) {
+            match connection.authenticate(record(c.x)) {
                 Ok(()) => Answer::refused(0),
                 Err(_) => Answer::refused(14),
             }
         }
-        Op::Length => {
-            let mut p = image::to_record(c.x);
-            p.write_order = p.write_order.filter(|order| due::is_permutation(order));
-            Answer::number(stored(|out| p.write(out)).number)
-        }
+        Op::Length => Answer::number(stored(|out| record(c.x).write(out)).number),
     }
 }

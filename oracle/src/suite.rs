@@ -4,11 +4,11 @@ use crate::{
     VarInt,
     answer::{COUNTS, Case, MOST, NUMBER, Op},
     due,
-    image::{self, RECORD},
+    image::{self, PLACES, RECORD, Record, Versions},
     inputs::{self, Dice, EDGES, KNOWN, MAX, NUMBERS},
-    rust,
     shared::ConnectionId,
     transport_parameters::TransportParameters,
+    versions,
 };
 
 /// Datagram sizes.
@@ -116,7 +116,7 @@ impl Suite<'_> {
     }
 
     pub fn extension_by(&mut self, side: u64, x: &[u8]) {
-        let room = if self.d.one_in(16) { self.d.of(&[0, 1, 302, 304, MOST]) } else { RECORD };
+        let room = if self.d.one_in(16) { self.d.of(&[0, 1, RECORD - 1, RECORD + 1, MOST]) } else { RECORD };
         if self.case(Op::Read, side, x, room) {
             self.rearranged(side, x);
         }
@@ -193,8 +193,29 @@ impl Suite<'_> {
         ];
         // sound ones; cut within an identifier, a length, a value; too long or too short a value; values that a rule forbids; unknown ones
         for x in [
-            "010105", "6ab200", "40", "c0", "0140", "6ab2", "010205", "6ab201", "01020500", "010140", "0100", "6ab20100", "0201aa",
-            "0a0115", "0000", "1b00", "1b02aa",
+            "010105",
+            "6ab200",
+            "40",
+            "c0",
+            "0140",
+            "6ab2",
+            "010205",
+            "6ab201",
+            "01020500",
+            "010140",
+            "0100",
+            "6ab20100",
+            "0201aa",
+            "0a0115",
+            "0000",
+            "1b00",
+            "1b02aa",
+            // version information: sound; with a chosen version that is not available, or 0; of three bytes; cut
+            "11080000000100000001",
+            "11080000000100000002",
+            "11080000000100000000",
+            "1103000000",
+            "11080000",
         ] {
             pieces.push(inputs::unhex(x));
         }
@@ -208,7 +229,7 @@ impl Suite<'_> {
 
     /// Every `step`th set of the known parameters.
     pub fn subsets(&mut self, step: usize) {
-        for mask in (0..1 << 20).step_by(step) {
+        for mask in (0..1 << KNOWN.len()).step_by(step) {
             let x = inputs::extension(&mut self.d, mask);
             self.extension(&x);
         }
@@ -235,10 +256,11 @@ impl Suite<'_> {
     pub fn long_forms(&mut self) {
         let address = [&[1; 24][..], &[3, 0x40, 5, 0x40], &[5; 16]].concat();
         for id in KNOWN[NUMBERS..].iter().chain(&[0x1b, 0x3a, 0x3f, 0x2ab3, MAX]) {
-            let v = match id {
+            let v = match *id {
                 0x02 => &[0x40; 16][..],
                 0x0c | 0x2ab2 => &[],
                 0x0d => &address,
+                versions::ID => &[0x40, 5, 0x40, 5, 0x40, 5, 0x40, 5],
                 _ => &[0x80, 0, 0, 5],
             };
             for forms in 0..16 {
@@ -291,7 +313,7 @@ impl Suite<'_> {
 
     /// Every sequence of up to `most` parameters, known, reserved or unknown: every order, and second and third copies.
     pub fn sequences(&mut self, most: u32) {
-        let ids: Vec<u64> = KNOWN.into_iter().chain([0x1b, 0x11]).collect();
+        let ids: Vec<u64> = KNOWN.into_iter().chain([0x1b, 0x12]).collect();
         for len in 1..=most {
             for i in 0..ids.len().pow(len) {
                 let mut x = Vec::new();
@@ -358,18 +380,21 @@ impl Suite<'_> {
         }
     }
 
-    /// What real clients sent: as it is; its record written, in catalogue order and in a drawn one; damaged. Then `n` mixtures of it, some of
-    /// them with a byte changed.
+    /// What real clients sent, with its version information and without: as it is; its record written, in catalogue order and in a drawn one;
+    /// damaged. Then `n` mixtures of it, some of them with a byte changed.
     pub fn real(&mut self, step: usize, n: usize) {
         let all = inputs::real();
-        for x in &all {
-            self.extension(x);
-            self.rooms(Op::Tidy, 1, x);
-            let p = TransportParameters::read(rust::side(1), &mut &x[..]).expect("quinn accepts it");
+        let without = all.iter().map(|x| versions::struck(x).expect("each client sends version information").0);
+        for x in without.chain(all.clone()) {
+            self.extension(&x);
+            self.rooms(Op::Tidy, 1, &x);
+            let read = due::answer(&Case::new(Op::Read, 1, &x, RECORD));
+            assert_eq!(read.code, 0, "what a client sent is accepted");
+            let p = image::to_record(read.due());
             self.record(&p);
             let order = Some(self.d.permutation());
-            self.record(&TransportParameters { write_order: order, ..p });
-            self.damage(x, step);
+            self.record(&p.in_order(order));
+            self.damage(&x, step);
         }
         for i in 0..n {
             let mut x = inputs::mixed(&mut self.d, &all);
@@ -384,13 +409,13 @@ impl Suite<'_> {
     /// An extension that a client accepts: a legal record, written, with unknown parameters at its ends.
     fn good(&mut self) -> Vec<u8> {
         loop {
-            let mut x = Vec::new();
-            if self.d.one_in(2) {
-                inputs::record(&mut self.d, true).write(&mut x);
+            let x = if self.d.one_in(2) {
+                let image = image::of_record(&inputs::record(&mut self.d, true));
+                due::answer(&Case::new(Op::Write, 0, &image, MOST)).due().to_vec()
             } else {
                 let mask = inputs::mask(&mut self.d);
-                x = inputs::extension(&mut self.d, mask);
-            }
+                inputs::extension(&mut self.d, mask)
+            };
             if due::answer(&Case::new(Op::Read, 0, &x, RECORD)).code == 0 {
                 return x;
             }
@@ -467,6 +492,11 @@ impl Suite<'_> {
             "0a011501",
             // an ID that no client's first packet may have as destination
             "0001aa",
+            // version information: none available; the chosen one among two; not among them; 0
+            "110400000001",
+            "110c000000016b3343cf00000001",
+            "110c000000016b3343cf00000002",
+            "110c000000010000000000000001",
         ] {
             self.extension(&inputs::unhex(x));
         }
@@ -475,9 +505,9 @@ impl Suite<'_> {
     // Records
 
     /// A record written, measured, checked for both sides, asked for its issue limit.
-    fn record(&mut self, p: &TransportParameters) {
+    pub fn record(&mut self, p: &Record) {
         let x = image::of_record(p);
-        let room = if self.d.one_in(4) { self.d.below(316) } else { MOST };
+        let room = if self.d.one_in(4) { self.d.below(387) } else { MOST };
         self.case(Op::Write, 0, &x, room);
         self.case(Op::Length, 0, &x, 0);
         self.case(Op::Check, 0, &x, 0);
@@ -500,7 +530,7 @@ impl Suite<'_> {
     pub fn record_edges(&mut self) {
         for place in 0..11 {
             for edge in EDGES {
-                let mut p = TransportParameters::default();
+                let mut p = Record::from(TransportParameters::default());
                 *image::numbers(&mut p)[place] = VarInt(edge);
                 self.record(&p);
             }
@@ -509,42 +539,106 @@ impl Suite<'_> {
             let mut p = TransportParameters::default();
             p.max_ack_delay = VarInt(ms);
             p.min_ack_delay = Some(VarInt(us));
-            self.record(&p);
+            self.record(&p.into());
         }
     }
 
-    /// One record that has everything, in many orders: rotations, swaps of two places, random ones.
+    /// One record that has everything, and the same without version information, in many orders: rotations, swaps of two places, random ones.
     pub fn orders(&mut self, n: usize) {
         let p = loop {
             let p = inputs::record(&mut self.d, true);
             let x = image::of_record(&p);
-            if [88, 89, 90, 99, 108, 130, 152, 174, 191, 255].iter().all(|at| x[*at] == 1) {
+            if [88, 89, 90, 99, 108, 130, 152, 174, 191, 255, image::VERSIONS].iter().all(|at| x[*at] == 1) {
                 break p;
             }
         };
-        let mut orders = vec![image::CATALOGUE_ORDER; 21 + 210 + n];
+        const SWAPPED: usize = PLACES + PLACES * (PLACES - 1) / 2;
+        let mut orders = vec![image::CATALOGUE_ORDER; SWAPPED + n];
         for (i, order) in orders.iter_mut().enumerate() {
             match i {
-                0..21 => order.rotate_left(i),
-                21..231 => {
-                    let pair = (0..21).flat_map(|a| (0..a).map(move |b| (a, b))).nth(i - 21).unwrap();
+                0..PLACES => order.rotate_left(i),
+                PLACES..SWAPPED => {
+                    let pair = (0..PLACES).flat_map(|a| (0..a).map(move |b| (a, b))).nth(i - PLACES).unwrap();
                     order.swap(pair.0, pair.1)
                 }
-                231 => order.reverse(),
+                SWAPPED => order.reverse(),
                 _ => *order = self.d.permutation(),
             }
         }
         for order in orders {
-            let p = TransportParameters { write_order: Some(order), ..p };
-            self.case(Op::Write, 0, &image::of_record(&p), MOST);
-            self.case(Op::Length, 0, &image::of_record(&p), 0);
+            for versions in [None, p.versions] {
+                let x = image::of_record(&p.with_versions(versions).in_order(Some(order)));
+                self.case(Op::Write, 0, &x, MOST);
+                self.case(Op::Length, 0, &x, 0);
+            }
+        }
+    }
+
+    // Version information
+
+    /// Each value at the edges in each form of identifier and length; with a second copy behind it, cut, or a fault behind or before it; and `n` that are drawn,
+    /// each with up to two other parameters.
+    pub fn versions(&mut self, n: usize) {
+        for v in inputs::version_edges(&mut self.d) {
+            let whole = versions::parameter(&v);
+            for forms in 0..16 {
+                let mut x = Vec::new();
+                inputs::put_number(&mut x, versions::ID, forms / 4);
+                inputs::put_number(&mut x, v.len() as u64, forms % 4);
+                x.extend(&v);
+                self.extension(&x);
+            }
+            self.rooms(Op::Tidy, 0, &whole);
+            self.rooms(Op::Tidy, 1, &whole);
+            for other in ["11080000000100000001", "1100", "1108", "0c000c00", "0a0115", "01020500", "40", "1b00"].map(inputs::unhex) {
+                self.extension(&[&whole[..], &other].concat());
+                self.extension(&[&other[..], &whole].concat());
+            }
+        }
+        for _ in 0..n {
+            let mut ids = vec![versions::ID];
+            for _ in 0..self.d.below(3) {
+                ids.push(if self.d.one_in(4) { inputs::unknown(&mut self.d) } else { self.d.of(&KNOWN) });
+            }
+            self.d.shuffle(&mut ids);
+            let mut x = Vec::new();
+            for id in ids {
+                let v = inputs::value(&mut self.d, id);
+                inputs::put_parameter(&mut self.d, &mut x, id, &v);
+            }
+            self.extension(&x);
+        }
+    }
+
+    /// The default record with each value at the edges that fits, in catalogue order and in drawn ones; `n` records with and without one; and the longest
+    /// record, in orders that have place 21 at each position, with each room around what is due.
+    pub fn version_records(&mut self, n: usize) {
+        for v in inputs::version_edges(&mut self.d).into_iter().filter(|v| versions::fits(v)) {
+            let p = Record::from(TransportParameters::default()).with_versions(Some(Versions::of(&v)));
+            self.record(&p);
+            let order = Some(self.d.permutation());
+            self.rooms(Op::Write, 0, &image::of_record(&p.in_order(order)));
+        }
+        let edges: Vec<_> = inputs::version_edges(&mut self.d).into_iter().filter(|v| versions::fits(v)).collect();
+        for _ in 0..n {
+            let versions = Some(Versions::of(&self.d.of(&edges)));
+            let p = inputs::record(&mut self.d, true);
+            self.record(&p.with_versions(versions));
+        }
+        let longest = inputs::longest();
+        for position in 0..PLACES {
+            let mut order = self.d.permutation();
+            let at = order.iter().position(|place| *place == 21).unwrap();
+            order.swap(position, at);
+            self.rooms(Op::Write, 0, &image::of_record(&longest.in_order(Some(order))));
+            self.record(&longest.in_order(Some(order)));
         }
     }
 
     /// Orders to test: every place of one changed to every byte, every length, random permutations, those with a place set to another or
     /// two to anything.
     pub fn order_tests(&mut self, n: usize) {
-        for at in 0..21 {
+        for at in 0..PLACES {
             for place in 0..=255 {
                 let mut order = self.d.permutation();
                 order[at] = place;
@@ -558,8 +652,8 @@ impl Suite<'_> {
         for i in 0..n {
             let mut order = self.d.permutation();
             match i % 4 {
-                0 => order[self.d.below(21)] = order[self.d.below(21)],
-                1 => (0..2).for_each(|_| order[self.d.below(21)] = self.d.next() as u8),
+                0 => order[self.d.below(PLACES)] = order[self.d.below(PLACES)],
+                1 => (0..2).for_each(|_| order[self.d.below(PLACES)] = self.d.next() as u8),
                 _ => {}
             }
             self.case(Op::CheckOrder, 0, &order, 0);
@@ -569,7 +663,7 @@ impl Suite<'_> {
     /// Orders to be asked for their first fault: every list of up to four of five entries; of a permutation each length, and each with more entries
     /// behind it; at each two positions the one's entry at the other, and one out of range beside a repeat; random lists of every length to 63.
     pub fn order_faults(&mut self, n: usize) {
-        const ENTRIES: [u8; 5] = [0, 1, 20, 21, 255];
+        const ENTRIES: [u8; 5] = [0, 1, 21, 22, 255];
         for len in 0..=4 {
             for i in 0..ENTRIES.len().pow(len) {
                 let order: Vec<u8> = (0..len).map(|k| ENTRIES[i / ENTRIES.len().pow(k) % ENTRIES.len()]).collect();
@@ -581,19 +675,19 @@ impl Suite<'_> {
             let order: Vec<u8> = self.d.permutation().into_iter().chain(more).chain(more).take(len).collect();
             self.case(Op::OrderFault, 0, &order, 0);
         }
-        for (at, other) in (0..21).flat_map(|at| (0..21).map(move |other| (at, other))) {
+        for (at, other) in (0..PLACES).flat_map(|at| (0..PLACES).map(move |other| (at, other))) {
             let mut order = self.d.permutation();
             order[at] = order[other];
             self.case(Op::OrderFault, 0, &order, 0);
-            order[self.d.below(21)] = 21 + self.d.below(235) as u8;
+            order[self.d.below(PLACES)] = 22 + self.d.below(234) as u8;
             self.case(Op::OrderFault, 0, &order, 0);
         }
         for i in 0..n {
             let mut order: Vec<u8> = self.d.permutation().to_vec();
             match i % 4 {
-                0 => order[self.d.below(21)] = order[self.d.below(21)],
-                1 => (0..2).for_each(|_| order[self.d.below(21)] = self.d.next() as u8),
-                2 => order.resize_with(self.d.below(64), || self.d.below(24) as u8),
+                0 => order[self.d.below(PLACES)] = order[self.d.below(PLACES)],
+                1 => (0..2).for_each(|_| order[self.d.below(PLACES)] = self.d.next() as u8),
+                2 => order.resize_with(self.d.below(64), || self.d.below(25) as u8),
                 _ => {}
             }
             self.case(Op::OrderFault, 0, &order, 0);
@@ -652,10 +746,10 @@ impl Suite<'_> {
             }
             if has(3) {
                 match d.below(4) {
-                    0 => p.order[d.below(21)] = 21 + d.below(235) as u8,
-                    1 => p.order[0] = p.order[1 + d.below(20)],
-                    2 => p.order.truncate(d.below(21)),
-                    _ => p.order.push(d.below(22) as u8),
+                    0 => p.order[d.below(PLACES)] = 22 + d.below(234) as u8,
+                    1 => p.order[0] = p.order[1 + d.below(PLACES - 1)],
+                    2 => p.order.truncate(d.below(PLACES)),
+                    _ => p.order.push(d.below(PLACES + 1) as u8),
                 }
             }
             self.build(&p, [4, 7, 9, 6][kind]);
@@ -700,7 +794,7 @@ impl Suite<'_> {
         }
         for (a, b) in SIZES.iter().flat_map(|a| SIZES.map(|b| (*a, b))) {
             let image = |s: Option<u64>| {
-                image::of_record(&TransportParameters { max_datagram_frame_size: s.map(VarInt), ..TransportParameters::default() })
+                image::of_record(&TransportParameters { max_datagram_frame_size: s.map(VarInt), ..TransportParameters::default() }.into())
             };
             (self.sink)(&Case { y: &image(b), ..Case::new(Op::Resume, 0, &image(a), 0) });
         }
@@ -739,7 +833,7 @@ impl Suite<'_> {
         let alike: Vec<_> =
             [&[][..], &[7], &[7, 0], &[8], &[7; 20]].map(|b| Some(ConnectionId::new(b))).into_iter().chain([None]).collect();
         for i in 0..6usize.pow(3) {
-            let mut p = TransportParameters::default();
+            let mut p = Record::from(TransportParameters::default());
             (p.initial_src_cid, p.original_dst_cid, p.retry_src_cid) = (alike[i % 6], alike[i / 6 % 6], alike[i / 36]);
             for j in 0..5 * 5 * 6 {
                 for side in [0, 1] {
@@ -755,7 +849,8 @@ impl Suite<'_> {
         for i in 0..n {
             let legal = self.d.one_in(2);
             let mut p = inputs::record(&mut self.d, legal);
-            for id in [&mut p.initial_src_cid, &mut p.original_dst_cid] {
+            let quinn: &mut TransportParameters = &mut p;
+            for id in [&mut quinn.initial_src_cid, &mut quinn.original_dst_cid] {
                 *id = id.or_else(|| (!self.d.one_in(8)).then(|| inputs::cid(&mut self.d)));
             }
             let other = [inputs::cid(&mut self.d), inputs::cid(&mut self.d)];
@@ -785,7 +880,7 @@ impl Suite<'_> {
         ConnectionId::new(&bytes)
     }
 
-    fn authenticate(&mut self, side: u64, p: &TransportParameters, seen: [Option<ConnectionId>; 3]) {
+    pub fn authenticate(&mut self, side: u64, p: &Record, seen: [Option<ConnectionId>; 3]) {
         let flag = if seen[2].is_some() { self.d.of(&[1, 1, 2, 255]) } else { 0 };
         let ids = seen.map(|c| c.map_or([0; image::CID], |c| image::of_cid(&c)));
         let x = image::of_record(p);
@@ -793,7 +888,7 @@ impl Suite<'_> {
     }
 
     /// One of the IDs seen, or of the record's, is none: over 20 bytes, a byte behind it, another length of image, of no Retry not zero.
-    fn ill_formed(&mut self, side: u64, i: usize, p: &TransportParameters, seen: [Option<ConnectionId>; 3]) {
+    fn ill_formed(&mut self, side: u64, i: usize, p: &Record, seen: [Option<ConnectionId>; 3]) {
         let mut ids = seen.map(|c| c.map_or([0; image::CID], |c| image::of_cid(&c)).to_vec());
         let mut x = image::of_record(p);
         let mut flag = seen[2].is_some() as u64;
@@ -816,6 +911,16 @@ impl Suite<'_> {
 
     // Calls that are declined because of a record or an order: the Rust has no such record
 
+    /// No record that is well formed, and one that is, for resumption.
+    pub fn declined_record(&mut self, x: &[u8], good: &[u8], room: usize) {
+        (self.sink)(&Case::new(Op::Write, 0, x, room).declined(7));
+        (self.sink)(&Case::new(Op::Length, 0, x, 0).declined(7));
+        let side = self.side();
+        (self.sink)(&Case::new(Op::Check, side, x, 0).declined(7));
+        (self.sink)(&Case { y: good, ..Case::new(Op::Resume, 0, x, 0).declined(7) });
+        (self.sink)(&Case { y: x, ..Case::new(Op::Resume, 0, good, 0).declined(7) });
+    }
+
     pub fn declined(&mut self, n: usize) {
         for i in 0..n {
             let legal = self.d.one_in(2);
@@ -826,23 +931,18 @@ impl Suite<'_> {
             let cut = &good[..self.d.below(RECORD)];
             let long = [&good[..], &[0]].concat();
             for x in [&bad[..], cut, &long] {
-                (self.sink)(&Case::new(Op::Write, 0, x, room).declined(7));
-                (self.sink)(&Case::new(Op::Length, 0, x, 0).declined(7));
-                let side = self.side();
-                (self.sink)(&Case::new(Op::Check, side, x, 0).declined(7));
-                (self.sink)(&Case { y: &good, ..Case::new(Op::Resume, 0, x, 0).declined(7) });
-                (self.sink)(&Case { y: x, ..Case::new(Op::Resume, 0, &good, 0).declined(7) });
+                self.declined_record(x, &good, room);
             }
             for x in [cut, &long] {
                 (self.sink)(&Case::new(Op::Issue, 0, x, 0).declined(7));
             }
             // an order that is out of range or that repeats a place
             let mut order = self.d.permutation();
-            let at = self.d.below(21);
-            order[at] = if self.d.one_in(2) { 21 + self.d.below(235) as u8 } else { order[(at + 1 + self.d.below(20)) % 21] };
+            let at = self.d.below(PLACES);
+            order[at] = if self.d.one_in(2) { 22 + self.d.below(234) as u8 } else { order[(at + 1 + self.d.below(PLACES - 1)) % PLACES] };
             for (mut x, code) in [(good, 6), (bad, 7)] {
                 x[281] = 1;
-                x[282..].copy_from_slice(&order);
+                x[282..image::VERSIONS].copy_from_slice(&order);
                 // an order that is there hides what spoilt an absent one
                 if code == 6 || i % inputs::SPOILS != inputs::SPOILS - 1 {
                     (self.sink)(&Case::new(Op::Write, 0, &x, room).declined(code));

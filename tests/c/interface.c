@@ -9,6 +9,10 @@
 #define CID YUTHPRAM_CID_SIZE
 #define BOUND ((uint64_t)1 << 62)
 
+// How many places an order has, and where an image's version information stands.
+enum { PLACES = YUTHPRAM_PLACES, VERSIONS = 304 };
+_Static_assert(YUTHPRAM_INTERFACE_VERSION == 2, "the interface of this program");
+
 // Every output that a call is lent, filled with a pattern before it.
 static uint8_t out[400];
 static uint64_t value;
@@ -193,7 +197,7 @@ static void defaults(void)
 
 static void checking(void)
 {
-    static const size_t flags[] = { 88, 89, 90, 99, 108, 130, 152, 174, 191, 192, 199, 255, 281 };
+    static const size_t flags[] = { 88, 89, 90, 99, 108, 130, 152, 174, 191, 192, 199, 255, 281, VERSIONS };
     uint8_t image[RECORD + 1] = { 0 };
     default_record(image);
     CHECK(yuthpram_check(image, RECORD, 0) == 0 && yuthpram_check(image, RECORD, 1) == 0);
@@ -258,13 +262,13 @@ static size_t parameter(uint8_t *at, const uint8_t *id, size_t id_len, uint8_t b
 
 // The known parameters, each with a value that a client accepts; behind them an unknown one twice, the second time with its identifier in eight
 // bytes.
-enum { KNOWN = 20, ALL = 22 };
+enum { KNOWN = 21, ALL = 23 };
 static const struct { size_t id_len; uint8_t id[8], byte; size_t len; } sample[] = {
     { 1, { 0x01 }, 2, 1 },    { 1, { 0x03 }, 0xc1, 8 }, { 1, { 0x04 }, 2, 1 },  { 1, { 0x05 }, 2, 1 },       { 1, { 0x06 }, 2, 1 },
     { 1, { 0x07 }, 2, 1 },    { 1, { 0x08 }, 2, 1 },    { 1, { 0x09 }, 2, 1 },  { 1, { 0x0a }, 2, 1 },       { 1, { 0x0b }, 2, 1 },
     { 1, { 0x0e }, 2, 1 },    { 1, { 0x02 }, 9, 16 },   { 1, { 0x0c }, 0, 0 },  { 1, { 0x20 }, 2, 1 },       { 1, { 0x0d }, 1, 42 },
     { 1, { 0x00 }, 7, 20 },   { 1, { 0x0f }, 7, 1 },    { 1, { 0x10 }, 7, 0 },  { 2, { 0x6a, 0xb2 }, 0, 0 },
-    { 8, { 0xc0, 0, 0, 0, 0xff, 0x04, 0xde, 0x1b }, 2, 1 },
+    { 8, { 0xc0, 0, 0, 0, 0xff, 0x04, 0xde, 0x1b }, 2, 1 }, { 1, { 0x11 }, 7, 8 },
     { 1, { 0x1b }, 5, 3 },    { 8, { 0xc0, 0, 0, 0, 0, 0, 0, 0x1b }, 6, 2 },
 };
 _Static_assert(sizeof sample / sizeof *sample == ALL, "a row for each");
@@ -342,7 +346,7 @@ static void kinds(void)
 static void any_order(void)
 {
     // active_connection_id_limit is at its default; the unknown ones are counted whole, the one with its identifier in eight bytes too
-    static const yuthpram_counts due = { 144, 16, 3, 0, KNOWN };
+    static const yuthpram_counts due = { 154, 16, 3, 0, KNOWN };
     uint8_t record[RECORD], tidied[sizeof out];
     size_t stored = 0;
     for (size_t order = 0; order < 2 * ALL; order++) {
@@ -367,20 +371,20 @@ static void any_order(void)
 // A permutation of the places: the last place first.
 static void backwards(uint8_t *order)
 {
-    for (uint8_t i = 0; i < 21; i++)
-        order[i] = (uint8_t)(20 - i);
+    for (uint8_t i = 0; i < PLACES; i++)
+        order[i] = (uint8_t)(PLACES - 1 - i);
 }
 
 static void orders(void)
 {
-    uint8_t order[22];
+    uint8_t order[PLACES + 1] = { 0 };
     backwards(order);
-    CHECK(yuthpram_check_order(order, 21) == 0);
-    CHECK(yuthpram_check_order(order, 20) == 6 && yuthpram_check_order(order, 22) == 6 && yuthpram_check_order(order, 0) == 6);
+    CHECK(yuthpram_check_order(order, PLACES) == 0);
+    CHECK(yuthpram_check_order(order, PLACES - 1) == 6 && yuthpram_check_order(order, PLACES + 1) == 6 && yuthpram_check_order(order, 0) == 6);
     order[0] = 0;
-    CHECK(yuthpram_check_order(order, 21) == 6);
-    order[0] = 21;
-    CHECK(yuthpram_check_order(order, 21) == 6);
+    CHECK(yuthpram_check_order(order, PLACES) == 6);
+    order[0] = PLACES;
+    CHECK(yuthpram_check_order(order, PLACES) == 6);
 }
 
 // What is wrong with an order: a position and 6, or 0 and nothing stored.
@@ -396,28 +400,28 @@ static void order_faults(void)
 {
     uint8_t order[64] = { 0 };
     backwards(order);
-    ACCEPTS(yuthpram_order_fault(order, 21, &count));
+    ACCEPTS(yuthpram_order_fault(order, PLACES, &count));
     CHECK(untouched());
     CHECK(fault_at(NULL, 0, 0));
     for (size_t len = 0; len < sizeof order; len++)
-        if (len != 21)
-            CHECK(fault_at(order, len, len < 21 ? len : 21));
-    for (size_t at = 0; at < 21; at++) {
+        if (len != PLACES)
+            CHECK(fault_at(order, len, len < PLACES ? len : PLACES));
+    for (size_t at = 0; at < PLACES; at++) {
         uint8_t place = order[at];
-        order[at] = 21;
-        CHECK(fault_at(order, 21, at) && fault_at(order, 64, at) && yuthpram_check_order(order, 21) == 6);
+        order[at] = PLACES;
+        CHECK(fault_at(order, PLACES, at) && fault_at(order, 64, at) && yuthpram_check_order(order, PLACES) == 6);
         order[at] = 255;
         CHECK(fault_at(order, at + 1, at));
         order[at] = place;
     }
     // the later copy is at fault, unless an entry before it is out of range
-    for (size_t first = 0; first < 21; first++)
-        for (size_t second = first + 1; second < 21; second++) {
+    for (size_t first = 0; first < PLACES; first++)
+        for (size_t second = first + 1; second < PLACES; second++) {
             uint8_t place = order[second], other = order[(first + second) / 2];
             order[second] = order[first];
-            CHECK(fault_at(order, 21, second) && yuthpram_check_order(order, 21) == 6);
-            order[(first + second) / 2] = 21;
-            CHECK(fault_at(order, 21, (first + second) / 2));
+            CHECK(fault_at(order, PLACES, second) && yuthpram_check_order(order, PLACES) == 6);
+            order[(first + second) / 2] = PLACES;
+            CHECK(fault_at(order, PLACES, (first + second) / 2));
             order[(first + second) / 2] = other;
             order[second] = place;
         }
@@ -455,6 +459,7 @@ static void field_lengths(void)
     static const struct { size_t flag, at, len, due; } alone[] = {
         { 88, 0, 0, 2 },    { 89, 0, 0, 3 },    { 90, 0, 0, 3 },   { 99, 0, 0, 10 },    { 108, 109, 2, 4 },
         { 130, 131, 2, 4 }, { 152, 153, 2, 4 }, { 174, 0, 0, 18 }, { 191, 218, 3, 46 }, { 255, 264, 4, 6 },
+        { VERSIONS, 0, 0, 6 }, { VERSIONS, 305, 2, 14 }, { VERSIONS, 305, 14, 62 }, { VERSIONS, 305, 15, 67 }, { VERSIONS, 305, 16, 71 },
     };
     uint8_t image[RECORD];
     for (size_t i = 0; i < sizeof alone / sizeof *alone; i++) {
@@ -570,6 +575,9 @@ static void reporting(void)
         { "ID, length of 2", { 5, 0, 0, 1, 1 }, 6, { 0x0f, 0x40, 3, 7, 8, 9 } },
         { "ID of none, length of 8", { 2, 0, 0, 7, 1 }, 9, { 0x0f, 0xc0 } },
         { "ID that looks like a number", { 4, 0, 0, 0, 1 }, 4, { 0x0f, 2, 0x40, 5 } },
+        { "versions, length of 2", { 10, 0, 0, 1, 1 }, 11, { 0x11, 0x40, 8, 0, 0, 0, 1, 0, 0, 0, 1 } },
+        { "versions that look like numbers, identifier of 8", { 10, 0, 0, 7, 1 }, 17,
+          { 0xc0, 0, 0, 0, 0, 0, 0, 0x11, 8, 0x40, 5, 0x40, 5, 0x40, 5, 0x40, 5 } },
         { "one of each", { 3, 3, 3, 1, 2 }, 10, { 1, 2, 0x40, 5, 0x1b, 1, 0, 0x0e, 1, 2 } },
     };
     // of a server: an ID, a token and an address with a length in a longer form, and what looks like a number within
@@ -637,6 +645,7 @@ static const struct { uint64_t id, usual, other; } with_number[NUMBERS] = {
 };
 static const struct { uint64_t id; size_t len; int of_server; } with_bytes[KNOWN - NUMBERS] = {
     { 0x00, 20, 1 }, { 0x02, 16, 1 }, { 0x0c, 0, 0 }, { 0x0d, 42, 1 }, { 0x0f, 8, 0 }, { 0x10, 0, 1 }, { 0x2ab2, 0, 0 },
+    { 0x11, 12, 0 },
 };
 
 static void add_number(struct mix *m, size_t i, int is_usual, struct forms f)
@@ -726,13 +735,22 @@ static void mixed_reports(void)
     }
 }
 
+// Whether the version information of an image is all zero.
+static int no_versions(const uint8_t *image)
+{
+    for (size_t at = VERSIONS; at < RECORD; at++)
+        if (image[at] != 0)
+            return 0;
+    return 1;
+}
+
 static void building(void)
 {
     const uint64_t settings[YUTHPRAM_SETTINGS] = { 100, 101, 1 << 20, 1 << 16, 30000, 1472, 1, 1, 70000, 8, 1, 0 };
     const uint8_t cid[CID] = { 2, 5, 6 }, payload[16] = { 1, 2, 3 };
-    uint8_t order[21], image[RECORD], extension[YUTHPRAM_MAX_EXTENSION];
+    uint8_t order[PLACES], image[RECORD], extension[YUTHPRAM_MAX_EXTENSION];
     backwards(order);
-    ACCEPTS(yuthpram_new(settings, YUTHPRAM_SETTINGS, cid, CID, 40, payload, 3, order, 21, out, sizeof out));
+    ACCEPTS(yuthpram_new(settings, YUTHPRAM_SETTINGS, cid, CID, 40, payload, 3, order, PLACES, out, sizeof out));
     CHECK(kept(RECORD) && yuthpram_check(out, RECORD, 0) == 0);
     memcpy(image, out, RECORD);
     CHECK(get(image, 0) == 30000 && get(image, 8) == 1472 && get(image, 16) == 1 << 20 && get(image, 80) == 5);
@@ -742,7 +760,8 @@ static void building(void)
     CHECK(image[90] == 1 && get(image, 91) == 65535 && image[99] == 1 && get(image, 100) == 1000);
     CHECK(image[130] == 1 && memcmp(image + 131, cid, CID) == 0);
     CHECK(image[255] == 1 && get(image, 256) == 58 && image[264] == 3 && memcmp(image + 265, payload, 16) == 0);
-    CHECK(image[281] == 1 && memcmp(image + 282, order, 21) == 0);
+    CHECK(no_versions(image));
+    CHECK(image[281] == 1 && memcmp(image + 282, order, PLACES) == 0);
 
     // what was built can be written and read back, but for the reserved parameter and the order
     size_t n = 0;
@@ -755,19 +774,19 @@ static void building(void)
 static void not_building(void)
 {
     uint64_t settings[YUTHPRAM_SETTINGS] = { 0, 0, 0, 0, 0, 1200, 0, 0, 0, 0, 0, 0 };
-    uint8_t cid[CID] = { 2, 5, 6 }, payload[16] = { 0 }, order[21];
+    uint8_t cid[CID] = { 2, 5, 6 }, payload[16] = { 0 }, order[PLACES];
     const size_t n = YUTHPRAM_SETTINGS;
     backwards(order);
-    ACCEPTS(yuthpram_new(settings, n, cid, CID, BOUND - 28, payload, 15, order, 21, out, RECORD));
+    ACCEPTS(yuthpram_new(settings, n, cid, CID, BOUND - 28, payload, 15, order, PLACES, out, RECORD));
     CHECK(out[90] == 0 && get(out, 91) == 0 && out[88] == 0 && get(out, 80) == 2);
-    REFUSES(7, yuthpram_new(settings, n - 1, cid, CID, 0, payload, 0, order, 21, out, RECORD));
-    REFUSES(7, yuthpram_new(settings, n, cid, CID - 1, 0, payload, 0, order, 21, out, RECORD));
-    REFUSES(9, yuthpram_new(settings, n, cid, CID, BOUND - 27, payload, 0, order, 21, out, RECORD));
-    REFUSES(9, yuthpram_new(settings, n, cid, CID, 0, payload, 16, order, 21, out, RECORD));
-    REFUSES(6, yuthpram_new(settings, n, cid, CID, 0, payload, 0, order, 20, out, RECORD));
-    REFUSES(5, yuthpram_new(settings, n, cid, CID, 0, payload, 0, order, 21, out, RECORD - 1));
+    REFUSES(7, yuthpram_new(settings, n - 1, cid, CID, 0, payload, 0, order, PLACES, out, RECORD));
+    REFUSES(7, yuthpram_new(settings, n, cid, CID - 1, 0, payload, 0, order, PLACES, out, RECORD));
+    REFUSES(9, yuthpram_new(settings, n, cid, CID, BOUND - 27, payload, 0, order, PLACES, out, RECORD));
+    REFUSES(9, yuthpram_new(settings, n, cid, CID, 0, payload, 16, order, PLACES, out, RECORD));
+    REFUSES(6, yuthpram_new(settings, n, cid, CID, 0, payload, 0, order, PLACES - 1, out, RECORD));
+    REFUSES(5, yuthpram_new(settings, n, cid, CID, 0, payload, 0, order, PLACES, out, RECORD - 1));
     settings[YUTHPRAM_SETTING_DATAGRAM_RECEIVE_BUFFER_SIZE] = settings[YUTHPRAM_SETTING_CID_LEN] = UINT64_MAX;
-    ACCEPTS(yuthpram_new(settings, n, cid, CID, 0, payload, 0, order, 21, out, RECORD));
+    ACCEPTS(yuthpram_new(settings, n, cid, CID, 0, payload, 0, order, PLACES, out, RECORD));
     CHECK(out[90] == 0 && get(out, 80) == 5);
     settings[YUTHPRAM_SETTING_RECEIVE_WINDOW] = BOUND;
     REFUSES(4, yuthpram_new(settings, n, cid, CID - 1, BOUND, payload, 16, order, 0, out, 0));
@@ -928,10 +947,315 @@ static void authentication_of_illegal(void)
     CHECK(authenticate(YUTHPRAM_CLIENT, image, 1) == YUTHPRAM_CID_ABSENT);
 }
 
+// VERSION INFORMATION (RFC 9368): a chosen version, and 0 to 16 available ones.
+enum { MOST_AVAILABLE = 16, CHOSEN = VERSIONS + 2, AVAILABLE = CHOSEN + 4 };
+
+// A value with so many available versions, 0xff000001, 0xff000002 and so on, of which the chosen one is the first.
+static size_t put_versions(uint8_t *at, size_t available)
+{
+    for (size_t i = 0; i <= available; i++) {
+        const uint8_t version[4] = { 0xff, 0, 0, (uint8_t)(i == 0 ? 1 : i) };
+        memcpy(at + 4 * i, version, 4);
+    }
+    return 4 + 4 * available;
+}
+
+// The parameter of a value, in its shortest form.
+static size_t versions_parameter(uint8_t *at, const uint8_t *value, size_t len)
+{
+    size_t head = len < 64 ? 1 : 2;
+    at[0] = 0x11;
+    put_number(at + 1, len, head);
+    memcpy(at + 1 + head, value, len);
+    return 1 + head + len;
+}
+
+static size_t versions_of(uint8_t *at, size_t available)
+{
+    uint8_t value[4 + 4 * MOST_AVAILABLE];
+    return versions_parameter(at, value, put_versions(value, available));
+}
+
+// Each number of available versions, in each form of identifier and length: read by a client, and by a server if the chosen one is among them; the image;
+// tidied to the shortest form, of which the length has two bytes from 64 on.
+static void versions(void)
+{
+    for (size_t n = 0; n <= MOST_AVAILABLE; n++)
+        for (int forms = 0; forms < 16; forms++) {
+            uint8_t value[4 + 4 * MOST_AVAILABLE], image[RECORD], shortest[YUTHPRAM_MAX_EXTENSION];
+            size_t len = put_versions(value, n), stored = versions_parameter(shortest, value, len);
+            struct mix m = { .len = 0 };
+            size_t more = add(&m, 0x11, (size_t)1 << forms / 4);
+            more += add(&m, len, (size_t)1 << forms % 4);
+            memcpy(m.src + m.len, value, len);
+            m.len += len;
+            name(&m, 0, 0, more);
+            default_record(image);
+            image[VERSIONS] = 1;
+            image[VERSIONS + 1] = (uint8_t)n;
+            memcpy(image + CHOSEN, value, len);
+            CHECK(stored == len + (n < 15 ? 2 : 3));
+            for (uint8_t side = 0; side < 2; side++) {
+                if (side == YUTHPRAM_SERVER && n == 0) {
+                    REFUSES(YUTHPRAM_ILLEGAL_VALUE, yuthpram_read(side, m.src, m.len, out, RECORD));
+                    continue;
+                }
+                ACCEPTS(yuthpram_read(side, m.src, m.len, out, sizeof out));
+                CHECK(memcmp(out, image, RECORD) == 0 && kept(RECORD));
+                ACCEPTS(yuthpram_tidy(side, m.src, m.len, out, stored, &count));
+                CHECK(count == stored && memcmp(out, shortest, stored) == 0 && kept(stored));
+                REFUSES(YUTHPRAM_BUFFER_TOO_SHORT, yuthpram_tidy(side, m.src, m.len, out, stored - 1, &count));
+                reports(side, m.src, m.len, m.due, "version information");
+            }
+            ACCEPTS(yuthpram_length(image, RECORD, &count));
+            CHECK(count == stored);
+            ACCEPTS(yuthpram_write(image, RECORD, out, stored, &count));
+            CHECK(count == stored && memcmp(out, shortest, stored) == 0 && kept(stored));
+            REFUSES(YUTHPRAM_BUFFER_TOO_SHORT, yuthpram_write(image, RECORD, out, stored - 1, &count));
+            CHECK(yuthpram_check(image, RECORD, YUTHPRAM_CLIENT) == YUTHPRAM_OK);
+            CHECK(yuthpram_check(image, RECORD, YUTHPRAM_SERVER) == (n == 0 ? YUTHPRAM_ILLEGAL_VALUE : YUTHPRAM_OK));
+        }
+}
+
+// Read, tidied and reported by a side, all with the same answer.
+static void answered(uint8_t refusal, uint8_t side, const uint8_t *src, size_t len)
+{
+    reset();
+    CHECK(yuthpram_read(side, src, len, out, RECORD) == refusal && (refusal == 0 || untouched()));
+    reset();
+    CHECK(yuthpram_tidy(side, src, len, out, sizeof out, &count) == refusal && (refusal == 0 || untouched()));
+    reset();
+    CHECK(yuthpram_report(side, src, len, &counts) == refusal && (refusal == 0 || untouched()));
+}
+
+// A value of each length that is not a chosen version and at most sixteen available ones.
+static void versions_that_do_not_fit(void)
+{
+    uint8_t value[80], src[96];
+    memset(value, 7, sizeof value);
+    for (size_t len = 0; len <= sizeof value; len++) {
+        size_t n = versions_parameter(src, value, len);
+        if (len > 0)
+            answered(YUTHPRAM_CUT, YUTHPRAM_CLIENT, src, n - 1);
+        uint8_t refusal = len >= 4 && len <= 68 && len % 4 == 0 ? YUTHPRAM_OK : YUTHPRAM_MISFIT;
+        answered(refusal, YUTHPRAM_CLIENT, src, n);
+        answered(len == 4 ? YUTHPRAM_ILLEGAL_VALUE : refusal, YUTHPRAM_SERVER, src, n);
+    }
+}
+
+// A version of 0 at each place is not allowed; a server has to find the chosen one at some place, and a client does not look for it. A record is checked by
+// the same rules.
+static void versions_not_allowed(void)
+{
+    for (size_t n = 0; n <= MOST_AVAILABLE; n++)
+        for (size_t at = 0; at <= n; at++) {
+            uint8_t src[80], image[RECORD], missing[RECORD], alone[RECORD];
+            size_t len = versions_of(src, n), head = len - 4 - 4 * n;
+            memset(src + head + 4 * at, 0, 4);
+            answered(YUTHPRAM_ILLEGAL_VALUE, YUTHPRAM_CLIENT, src, len);
+            answered(YUTHPRAM_ILLEGAL_VALUE, YUTHPRAM_SERVER, src, len);
+            default_record(image);
+            image[VERSIONS] = 1;
+            image[VERSIONS + 1] = (uint8_t)n;
+            memcpy(image + CHOSEN, src + head, 4 + 4 * n);
+            CHECK(yuthpram_check(image, RECORD, YUTHPRAM_CLIENT) == YUTHPRAM_ILLEGAL_VALUE);
+            CHECK(yuthpram_check(image, RECORD, YUTHPRAM_SERVER) == YUTHPRAM_ILLEGAL_VALUE);
+
+            // the chosen one at no place, and only at this one
+            len = versions_of(src, n);
+            src[head] = 0xfe;
+            answered(YUTHPRAM_OK, YUTHPRAM_CLIENT, src, len);
+            answered(YUTHPRAM_ILLEGAL_VALUE, YUTHPRAM_SERVER, src, len);
+            ACCEPTS(yuthpram_read(YUTHPRAM_CLIENT, src, len, missing, RECORD));
+            memcpy(src + head + 4 * at, src + head, 4);
+            uint8_t refusal = at == 0 ? YUTHPRAM_ILLEGAL_VALUE : YUTHPRAM_OK;
+            answered(YUTHPRAM_OK, YUTHPRAM_CLIENT, src, len);
+            answered(refusal, YUTHPRAM_SERVER, src, len);
+            ACCEPTS(yuthpram_read(YUTHPRAM_CLIENT, src, len, alone, RECORD));
+            CHECK(yuthpram_check(missing, RECORD, YUTHPRAM_CLIENT) == 0 && yuthpram_check(missing, RECORD, YUTHPRAM_SERVER) == 2);
+            CHECK(yuthpram_check(alone, RECORD, YUTHPRAM_CLIENT) == 0 && yuthpram_check(alone, RECORD, YUTHPRAM_SERVER) == refusal);
+        }
+}
+
+// Versions of which one byte is not 0, and a chosen one from which the available one differs in one byte.
+static void versions_by_bytes(void)
+{
+    for (size_t byte = 0; byte < 4; byte++) {
+        uint8_t value[8] = { 0 }, src[16];
+        value[byte] = value[4 + byte] = 1;
+        size_t len = versions_parameter(src, value, sizeof value);
+        answered(YUTHPRAM_OK, YUTHPRAM_CLIENT, src, len);
+        answered(YUTHPRAM_OK, YUTHPRAM_SERVER, src, len);
+        memset(src + 2, 7, sizeof value);
+        src[2 + byte] ^= 0x80;
+        answered(YUTHPRAM_OK, YUTHPRAM_CLIENT, src, len);
+        answered(YUTHPRAM_ILLEGAL_VALUE, YUTHPRAM_SERVER, src, len);
+    }
+}
+
+// What is found before a version that is not allowed: each fault of a parameter, behind it or before it. And a number that is not allowed either.
+static void versions_and_faults(void)
+{
+    static const struct { uint8_t refusal, len, src[6]; } others[] = {
+        { YUTHPRAM_CUT, 3, { 1, 2, 5 } },
+        { YUTHPRAM_SECOND_COPY, 4, { 0x0c, 0, 0x0c, 0 } },
+        { YUTHPRAM_MISFIT, 4, { 1, 2, 5, 0 } },
+        { YUTHPRAM_ILLEGAL_VALUE, 3, { 10, 1, 21 } },
+        { YUTHPRAM_ILLEGAL_VALUE, 3, { 0x1b, 1, 5 } },
+    };
+    uint8_t good[80], bad[80], src[256];
+    size_t len = versions_of(good, 2);
+    versions_of(bad, 2);
+    memset(bad + 2, 0, 4);
+    for (size_t i = 0; i < sizeof others / sizeof *others; i++) {
+        size_t n = others[i].len;
+        memcpy(src, bad, len);
+        memcpy(src + len, others[i].src, n);
+        answered(others[i].refusal, YUTHPRAM_CLIENT, src, len + n);
+        if (others[i].refusal == YUTHPRAM_CUT)
+            continue; // what stands behind would be taken into it
+        memcpy(src, others[i].src, n);
+        memcpy(src + n, bad, len);
+        answered(others[i].refusal, YUTHPRAM_CLIENT, src, n + len);
+        // a fault of version information is found behind, or before
+        src[n + 1]--;
+        answered(others[i].refusal == YUTHPRAM_ILLEGAL_VALUE ? YUTHPRAM_MISFIT : others[i].refusal, YUTHPRAM_CLIENT, src, n + len - 1);
+    }
+    // a second copy, of whatever value, and cut
+    const uint8_t *twice[] = { good, bad };
+    for (size_t i = 0; i < 4; i++) {
+        memcpy(src, twice[i / 2], len);
+        memcpy(src + len, twice[i % 2], len);
+        answered(YUTHPRAM_SECOND_COPY, YUTHPRAM_CLIENT, src, 2 * len);
+        for (size_t cut = len + 1; cut < 2 * len; cut++)
+            answered(YUTHPRAM_CUT, YUTHPRAM_CLIENT, src, cut);
+        src[len + 1]--;
+        answered(YUTHPRAM_SECOND_COPY, YUTHPRAM_CLIENT, src, 2 * len - 1);
+    }
+}
+
+// What is not well formed: a count of more than 16, a version behind the last one, anything where it is absent. Every operation on a record but the issue limit
+// refuses it, and an order or a side does not matter.
+static void ill_formed_versions(void)
+{
+    static const struct { size_t count, at; int present; } ill[] = {
+        { 17, 0, 1 }, { 255, 0, 1 }, { 0, AVAILABLE, 1 }, { 0, AVAILABLE + 3, 1 }, { 1, AVAILABLE + 4, 1 }, { 15, RECORD - 4, 1 }, { 15, RECORD - 1, 1 },
+        { 1, 0, 0 }, { 17, 0, 0 }, { 0, CHOSEN, 0 }, { 0, CHOSEN + 3, 0 }, { 0, AVAILABLE, 0 }, { 1, AVAILABLE, 0 }, { 0, RECORD - 1, 0 },
+    };
+    uint8_t image[RECORD], good[RECORD];
+    default_record(good);
+    put_id(good, INITIAL, SAME);
+    for (size_t i = 0; i < sizeof ill / sizeof *ill; i++) {
+        memcpy(image, good, RECORD);
+        image[VERSIONS] = (uint8_t)ill[i].present;
+        image[VERSIONS + 1] = (uint8_t)ill[i].count;
+        if (ill[i].present)
+            image[CHOSEN] = 1;
+        if (ill[i].at != 0)
+            image[ill[i].at] = 1;
+        for (uint8_t side = 0; side < 2; side++) {
+            REFUSES(YUTHPRAM_ILL_FORMED, yuthpram_check(image, RECORD, side));
+            REFUSES(YUTHPRAM_ILL_FORMED, authenticate(side, image, 0));
+        }
+        REFUSES(YUTHPRAM_ILL_FORMED, yuthpram_write(image, RECORD, out, sizeof out, &count));
+        REFUSES(YUTHPRAM_ILL_FORMED, yuthpram_write(image, RECORD, out, 0, &count));
+        REFUSES(YUTHPRAM_ILL_FORMED, yuthpram_length(image, RECORD, &count));
+        REFUSES(YUTHPRAM_ILL_FORMED, yuthpram_validate_resumption_from(image, RECORD, good, RECORD));
+        REFUSES(YUTHPRAM_ILL_FORMED, yuthpram_validate_resumption_from(good, RECORD, image, RECORD));
+        ACCEPTS(yuthpram_issue_cids_limit(image, RECORD, &value));
+        CHECK(value == 2);
+    }
+}
+
+// Resumption, the issue limit and authentication do not look at version information.
+static void versions_not_looked_at(void)
+{
+    uint8_t with[RECORD], without[RECORD];
+    default_record(without);
+    put_id(without, INITIAL, SAME);
+    memcpy(with, without, RECORD);
+    with[VERSIONS] = 1; // a chosen version of 0
+    CHECK(yuthpram_check(with, RECORD, YUTHPRAM_SERVER) == YUTHPRAM_ILLEGAL_VALUE);
+    CHECK(yuthpram_validate_resumption_from(with, RECORD, without, RECORD) == 0 && yuthpram_validate_resumption_from(without, RECORD, with, RECORD) == 0);
+    CHECK(authenticate(YUTHPRAM_SERVER, with, 0) == YUTHPRAM_OK);
+    ACCEPTS(yuthpram_issue_cids_limit(with, RECORD, &value));
+    CHECK(value == 2);
+}
+
+// A record that has everything, as long as it can be: 385 bytes, in every order of a round.
+static void longest_record(void)
+{
+    static const size_t ids[] = { 109, 131, 153, 218 };
+    uint8_t image[RECORD], extension[YUTHPRAM_MAX_EXTENSION], rest[YUTHPRAM_MAX_EXTENSION];
+    memset(image, 1, RECORD);
+    for (size_t place = 0; place < 11; place++)
+        put(image, 8 * place, BOUND - 1);
+    put(image, 91, BOUND - 1);
+    put(image, 100, BOUND - 1);
+    for (size_t i = 0; i < sizeof ids / sizeof *ids; i++)
+        image[ids[i]] = 20;
+    put(image, 256, BOUND - 1 - (BOUND - 1 - 27) % 31);
+    image[264] = 16;
+    image[VERSIONS + 1] = MOST_AVAILABLE;
+    size_t head = 1 + 2, own = head + 4 + 4 * MOST_AVAILABLE;
+    for (uint8_t first = 0; first < PLACES; first++) {
+        for (uint8_t i = 0; i < PLACES; i++)
+            image[282 + i] = (uint8_t)((first + i) % PLACES);
+        ACCEPTS(yuthpram_length(image, RECORD, &count));
+        CHECK(count == YUTHPRAM_MAX_EXTENSION);
+        ACCEPTS(yuthpram_write(image, RECORD, out, sizeof out, &count));
+        CHECK(count == YUTHPRAM_MAX_EXTENSION && kept(count));
+        memcpy(extension, out, YUTHPRAM_MAX_EXTENSION);
+        REFUSES(YUTHPRAM_BUFFER_TOO_SHORT, yuthpram_write(image, RECORD, out, YUTHPRAM_MAX_EXTENSION - 1, &count));
+
+        // place 21 stands behind those that come before it, and the rest is as without it
+        uint8_t without[RECORD];
+        memcpy(without, image, RECORD);
+        memset(without + VERSIONS, 0, RECORD - VERSIONS);
+        size_t stored = 0;
+        int found = 0;
+        ACCEPTS(yuthpram_write(without, RECORD, rest, sizeof rest, &stored));
+        CHECK(stored == YUTHPRAM_MAX_EXTENSION - own);
+        for (size_t from = 0; from <= stored; from++)
+            found += extension[from] == 0x11 && extension[from + 1] == 0x40 && extension[from + 2] == 68 && memcmp(extension, rest, from) == 0
+                && memcmp(extension + from + head, image + CHOSEN, 68) == 0 && memcmp(extension + from + own, rest + from, stored - from) == 0;
+        CHECK(found == 1);
+    }
+}
+
+// In an order version information stands at its own place, wherever that is.
+static void versions_in_orders(void)
+{
+    static const uint8_t idle[] = { 1, 1, 5 }, grease[] = { 0x6a, 0xb2, 0 };
+    for (size_t at = 0; at < PLACES; at++) {
+        uint8_t image[RECORD], expected[16];
+        size_t len = 0;
+        default_record(image);
+        put(image, 0, 5);
+        image[89] = image[VERSIONS] = image[VERSIONS + 1] = image[281] = 1;
+        memset(image + CHOSEN, 9, 8);
+        for (size_t i = 0; i < PLACES; i++) {
+            size_t place = i == at ? PLACES - 1 : i < at ? i : i - 1;
+            image[282 + i] = (uint8_t)place;
+            if (place == 0 || place == 19) {
+                memcpy(expected + len, place == 0 ? idle : grease, 3);
+                len += 3;
+            }
+            if (place == PLACES - 1)
+                len += versions_parameter(expected + len, image + CHOSEN, 8);
+        }
+        ACCEPTS(yuthpram_write(image, RECORD, out, sizeof out, &count));
+        CHECK(count == len && len == sizeof expected && memcmp(out, expected, len) == 0 && kept(len));
+        ACCEPTS(yuthpram_read(YUTHPRAM_SERVER, expected, len, out, RECORD));
+        memset(image + 281, 0, 1 + PLACES);
+        CHECK(memcmp(out, image, RECORD) == 0);
+    }
+}
+
 // What is no image is 7 in every function that takes one.
 static void no_images(void)
 {
-    static const size_t at[] = { 88, 89, 90, 99, 108, 130, 152, 174, 191, 192, 199, 255, 281, 98, 107 };
+    static const size_t at[] = { 88, 89, 90, 99, 108, 130, 152, 174, 191, 192, 199, 255, 281, VERSIONS, 98, 107 };
     uint8_t image[RECORD], good[RECORD];
     default_record(good);
     for (size_t i = 0; i < sizeof at / sizeof *at; i++) {
@@ -952,7 +1276,7 @@ static void nothing(void)
 {
     static const uint8_t src[] = { 1, 1, 5 }, cid[CID] = { 1, 9 };
     const uint64_t settings[YUTHPRAM_SETTINGS] = { 0 };
-    uint8_t image[RECORD], order[21];
+    uint8_t image[RECORD], order[PLACES];
     default_record(image);
     backwards(order);
     REFUSES(3, yuthpram_number_read(NULL, 0, &value, &count, &saved));
@@ -980,12 +1304,12 @@ static void nothing(void)
     REFUSES(5, yuthpram_tidy(YUTHPRAM_CLIENT, src, 3, NULL, 0, &count));
     ACCEPTS(yuthpram_report(YUTHPRAM_SERVER, NULL, 0, &counts));
     CHECK(same_counts(counts, (yuthpram_counts){ 0, 0, 0, 0, 0 }));
-    REFUSES(7, yuthpram_new(NULL, 0, cid, CID, 0, NULL, 0, order, 21, out, RECORD));
-    REFUSES(7, yuthpram_new(settings, YUTHPRAM_SETTINGS, NULL, 0, 0, NULL, 0, order, 21, out, RECORD));
-    ACCEPTS(yuthpram_new(settings, YUTHPRAM_SETTINGS, cid, CID, 0, NULL, 0, order, 21, out, RECORD));
+    REFUSES(7, yuthpram_new(NULL, 0, cid, CID, 0, NULL, 0, order, PLACES, out, RECORD));
+    REFUSES(7, yuthpram_new(settings, YUTHPRAM_SETTINGS, NULL, 0, 0, NULL, 0, order, PLACES, out, RECORD));
+    ACCEPTS(yuthpram_new(settings, YUTHPRAM_SETTINGS, cid, CID, 0, NULL, 0, order, PLACES, out, RECORD));
     CHECK(out[255] == 1 && out[264] == 0 && kept(RECORD));
     REFUSES(6, yuthpram_new(settings, YUTHPRAM_SETTINGS, cid, CID, 0, NULL, 0, NULL, 0, out, RECORD));
-    REFUSES(5, yuthpram_new(settings, YUTHPRAM_SETTINGS, cid, CID, 0, NULL, 0, order, 21, NULL, 0));
+    REFUSES(5, yuthpram_new(settings, YUTHPRAM_SETTINGS, cid, CID, 0, NULL, 0, order, PLACES, NULL, 0));
     REFUSES(7, yuthpram_validate_resumption_from(NULL, 0, image, RECORD));
     REFUSES(7, yuthpram_validate_resumption_from(image, RECORD, NULL, 0));
     REFUSES(7, yuthpram_authenticate_cids(YUTHPRAM_CLIENT, NULL, 0, cid, CID, cid, CID, 1, cid, CID));
@@ -1004,16 +1328,16 @@ static void yes_or_no(void)
     };
     static const uint64_t yes[] = { 2, 256, BOUND, UINT64_MAX };
     static const uint8_t cid[CID] = { 1, 9 };
-    uint8_t order[21], image[RECORD];
+    uint8_t order[PLACES], image[RECORD];
     backwards(order);
     for (size_t i = 0; i < 4; i++) {
         uint64_t settings[YUTHPRAM_SETTINGS] = { 0 };
         settings[YUTHPRAM_SETTING_SERVER] = 1;
         settings[at[i]] = 1;
-        ACCEPTS(yuthpram_new(settings, YUTHPRAM_SETTINGS, cid, CID, 0, NULL, 0, order, 21, image, RECORD));
+        ACCEPTS(yuthpram_new(settings, YUTHPRAM_SETTINGS, cid, CID, 0, NULL, 0, order, PLACES, image, RECORD));
         for (size_t j = 0; j < 4; j++) {
             settings[at[i]] = yes[j];
-            ACCEPTS(yuthpram_new(settings, YUTHPRAM_SETTINGS, cid, CID, 0, NULL, 0, order, 21, out, RECORD));
+            ACCEPTS(yuthpram_new(settings, YUTHPRAM_SETTINGS, cid, CID, 0, NULL, 0, order, PLACES, out, RECORD));
             CHECK(memcmp(out, image, RECORD) == 0);
         }
     }
@@ -1048,6 +1372,15 @@ int main(void)
     authentication();
     authentication_of_ill_formed();
     authentication_of_illegal();
+    versions();
+    versions_that_do_not_fit();
+    versions_not_allowed();
+    versions_by_bytes();
+    versions_and_faults();
+    ill_formed_versions();
+    versions_not_looked_at();
+    longest_record();
+    versions_in_orders();
     no_images();
     nothing();
     yes_or_no();

@@ -15,10 +15,10 @@ static const char *const numbers[] = {
     "initial_max_stream_data_bidi_remote", "initial_max_stream_data_uni", "initial_max_streams_bidi", "initial_max_streams_uni",
     "ack_delay_exponent", "max_ack_delay", "active_connection_id_limit",
 };
-enum { NUMBERS = 11, MIGRATION = 88, GREASE = 89, DATAGRAM = 90, MIN_ACK_DELAY = 99, SOURCE = 130 };
+enum { NUMBERS = 11, MIGRATION = 88, GREASE = 89, DATAGRAM = 90, MIN_ACK_DELAY = 99, SOURCE = 130, VERSIONS = 304 };
 
 static const uint64_t known[] = {
-    0x00, 0x01, 0x02, 0x03, 0x04, 0x05, 0x06, 0x07, 0x08, 0x09, 0x0a, 0x0b, 0x0c, 0x0d, 0x0e, 0x0f, 0x10, 0x20, 0x2ab2, 0xff04de1b,
+    0x00, 0x01, 0x02, 0x03, 0x04, 0x05, 0x06, 0x07, 0x08, 0x09, 0x0a, 0x0b, 0x0c, 0x0d, 0x0e, 0x0f, 0x10, 0x11, 0x20, 0x2ab2, 0xff04de1b,
 };
 
 static uint64_t number_at(const uint8_t *image, size_t at)
@@ -27,6 +27,20 @@ static uint64_t number_at(const uint8_t *image, size_t at)
     for (size_t i = 0; i < 8; i++)
         x = x << 8 | image[at + i];
     return x;
+}
+
+static uint32_t version_at(const uint8_t *image, size_t at)
+{
+    return (uint32_t)image[at] << 24 | (uint32_t)image[at + 1] << 16 | (uint32_t)image[at + 2] << 8 | image[at + 3];
+}
+
+// The chosen version, then those that are available.
+static void print_versions(const uint8_t *versions)
+{
+    printf("  version_information=0x%08" PRIx32 ":", version_at(versions, 2));
+    for (size_t i = 1; i <= versions[1]; i++)
+        printf(" 0x%08" PRIx32, version_at(versions, 2 + 4 * i));
+    printf("\n");
 }
 
 static void print_hex(const char *before, const uint8_t *bytes, size_t len)
@@ -53,6 +67,8 @@ static void print_values(const uint8_t *image, const uint8_t *defaults)
         printf("  grease_quic_bit\n");
     if (image[MIN_ACK_DELAY])
         printf("  min_ack_delay=%" PRIu64 "\n", number_at(image, MIN_ACK_DELAY + 1));
+    if (image[VERSIONS])
+        print_versions(image + VERSIONS);
 }
 
 static int is_known(uint64_t id)

@@ -20,7 +20,10 @@ mod image;
 mod types;
 
 pub use error::Error;
-pub use types::{AddressV6, ConnectionId, Decoded, PreferredAddress, ReservedTransportParameter, ResetToken, SeenConnectionIds, Side, VarInt};
+pub use types::{
+    AddressV6, ConnectionId, Decoded, PreferredAddress, ReservedTransportParameter, ResetToken, SeenConnectionIds, Side, VarInt,
+    VersionInformation,
+};
 
 /// What building takes besides a connection ID and drawn values: quinn's configuration, as `TransportParameters::new` uses it.
 /// The defaults are quinn's, of a client.
@@ -81,7 +84,7 @@ impl Default for Settings {
 /// let plain = TransportParameters::default();
 /// let mut greased = plain;
 /// greased.grease_transport_parameter = Some(ReservedTransportParameter::new(27u32.into(), b"cue")?);
-/// greased.write_order = Some(std::array::from_fn(|i| 20 - i as u8));
+/// greased.write_order = Some(std::array::from_fn(|i| 21 - i as u8));
 /// assert_eq!(greased, plain);
 /// greased.grease_quic_bit = true;
 /// assert_ne!(greased, plain);
@@ -110,6 +113,7 @@ pub struct TransportParameters {
     pub retry_src_cid: Option<ConnectionId>,
     pub stateless_reset_token: Option<ResetToken>,
     pub preferred_address: Option<PreferredAddress>,
+    pub version_information: Option<VersionInformation>,
     pub grease_transport_parameter: Option<ReservedTransportParameter>,
     pub write_order: Option<[u8; TransportParameters::PLACES]>,
 }
@@ -132,9 +136,9 @@ impl Default for TransportParameters {
 
 impl TransportParameters {
     /// The longest extension, in bytes.
-    pub const MAX_SIZE: usize = 314;
+    pub const MAX_SIZE: usize = 385;
     /// How many places an order has.
-    pub const PLACES: usize = 21;
+    pub const PLACES: usize = 22;
     /// The largest draw that building takes.
     pub const MAX_DRAW: u64 = (1 << 62) - 28;
     /// The longest reserved payload that building takes, in bytes.
@@ -155,6 +159,11 @@ impl TransportParameters {
     /// // A message that is cut off is told from a wrong sender.
     /// assert_eq!(TransportParameters::read(Side::Client, &[0x6a, 0xb2]), Err(Error::Cut));
     /// assert_eq!(TransportParameters::read(Side::Client, &[0x6a, 0xb2, 0x01, 0x00]), Err(Error::Misfit));
+    /// // Version information: a server asks that the chosen version be available, a client does not.
+    /// let versions = [0x11, 0x08, 0x00, 0x00, 0x00, 0x01, 0x6b, 0x33, 0x43, 0xcf];
+    /// let read = TransportParameters::read(Side::Client, &versions)?;
+    /// assert_eq!(read.version_information.unwrap().available(), [0x6b3343cf]);
+    /// assert_eq!(TransportParameters::read(Side::Server, &versions), Err(Error::IllegalValue));
     /// // What is accepted is accepted in every order of its parameters, with the same record.
     /// let (grease, idle) = ([0x6a, 0xb2, 0x00], [0x01, 0x01, 0x05]);
     /// let read = TransportParameters::read(Side::Client, &[grease, idle].concat())?;
@@ -193,7 +202,7 @@ impl TransportParameters {
     /// use yuthpram::TransportParameters;
     /// let mut params = TransportParameters { grease_quic_bit: true, ..Default::default() };
     /// let mut room = vec![0; params.length()];
-    /// params.write_order = Some(std::array::from_fn(|i| 20 - i as u8));
+    /// params.write_order = Some(std::array::from_fn(|i| 21 - i as u8));
     /// assert_eq!(params.write(&mut room)?, room.len());
     /// assert_eq!(room, [0x6a, 0xb2, 0x00]);
     /// # Ok::<(), yuthpram::Error>(())
@@ -219,11 +228,12 @@ impl TransportParameters {
         Error::of(unsafe { ffi::yuthpram_check(image.as_ptr(), image.len(), side.byte()) })
     }
 
-    /// Builds a record to send: `draw` gives the reserved identifier, `payload` (at most 15 bytes) goes with it.
+    /// Builds a record to send: `draw` gives the reserved identifier, `payload` (at most 15 bytes) goes with it. It has no version information: that
+    /// is set in what was built.
     ///
     /// ```
     /// use yuthpram::{ConnectionId, Settings, TransportParameters};
-    /// let order: Vec<u8> = (0..21).rev().collect();
+    /// let order: Vec<u8> = (0..22).rev().collect();
     /// let params = TransportParameters::new(&Settings::default(), ConnectionId::new(&[1, 2, 3])?, 1000, b"cue", &order)?;
     /// assert_eq!(params.active_connection_id_limit.into_inner(), 5);
     /// assert_eq!(params.grease_transport_parameter.unwrap().id().into_inner(), 31 * 32 + 27);
@@ -379,17 +389,18 @@ impl TransportParameters {
             retry_src_cid: None,
             stateless_reset_token: None,
             preferred_address: None,
+            version_information: None,
             grease_transport_parameter: None,
             write_order: None,
         }
     }
 }
 
-/// Whether an order is a permutation of 0 to 20.
+/// Whether an order is a permutation of 0 to 21.
 ///
 /// ```
 /// use yuthpram::{check_order, Error};
-/// let order: Vec<u8> = (0..21).rev().collect();
+/// let order: Vec<u8> = (0..22).rev().collect();
 /// assert_eq!(check_order(&order), Ok(()));
 /// assert_eq!(check_order(&order[1..]), Err(Error::InvalidOrder));
 /// ```
@@ -397,17 +408,17 @@ pub fn check_order(order: &[u8]) -> Result<(), Error> {
     Error::of(unsafe { ffi::yuthpram_check_order(order.as_ptr(), order.len()) })
 }
 
-/// What is wrong with an order of any length: the position, from 0, of the first entry that is over 20 or repeats an earlier one; the order's
-/// length if entries are only missing. `None` exactly for a permutation of 0 to 20, which `check_order` accepts.
+/// What is wrong with an order of any length: the position, from 0, of the first entry that is over 21 or repeats an earlier one; the order's
+/// length if entries are only missing. `None` exactly for a permutation of 0 to 21, which `check_order` accepts.
 ///
 /// ```
 /// use yuthpram::order_fault;
-/// let mut order: Vec<u8> = (0..21).rev().collect();
+/// let mut order: Vec<u8> = (0..22).rev().collect();
 /// assert_eq!(order_fault(&order), None);
 /// assert_eq!(order_fault(&order[..5]), Some(5));
 /// order[7] = order[3];
 /// assert_eq!(order_fault(&order), Some(7));
-/// order[4] = 21;
+/// order[4] = 22;
 /// assert_eq!(order_fault(&order), Some(4));
 /// ```
 pub fn order_fault(order: &[u8]) -> Option<usize> {

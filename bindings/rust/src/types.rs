@@ -442,3 +442,51 @@ impl ReservedTransportParameter {
         &self.payload[..self.payload_len as usize]
     }
 }
+
+/// The version chosen for a connection, and those that the sender has available (RFC 9368 section 3).
+#[derive(Copy, Clone, Eq, PartialEq, Hash)]
+pub struct VersionInformation {
+    pub(crate) chosen: u32,
+    pub(crate) available: [u32; 16],
+    pub(crate) available_len: u8,
+}
+
+impl VersionInformation {
+    /// The most versions that can be available.
+    pub const MAX_AVAILABLE: usize = 16;
+
+    /// Of a chosen version, and at most 16 available ones. Refuses 7 if there are more. Whether a version is 0, and the chosen one available, is
+    /// not looked at: reading and checking do that.
+    ///
+    /// ```
+    /// use yuthpram::{Error, VersionInformation};
+    /// let versions = VersionInformation::new(1, &[0x6b3343cf, 1])?;
+    /// assert_eq!((versions.chosen(), versions.available()), (1, &[0x6b3343cf, 1][..]));
+    /// assert_eq!(VersionInformation::new(1, &[1; 17]), Err(Error::IllFormed));
+    /// # Ok::<(), Error>(())
+    /// ```
+    pub fn new(chosen: u32, available: &[u32]) -> Result<Self, Error> {
+        if Self::MAX_AVAILABLE < available.len() {
+            return Err(Error::IllFormed);
+        }
+        let mut v = Self { chosen, available: [0; 16], available_len: available.len() as u8 };
+        v.available[..available.len()].copy_from_slice(available);
+        Ok(v)
+    }
+
+    /// The chosen version.
+    pub fn chosen(&self) -> u32 {
+        self.chosen
+    }
+
+    /// The available versions.
+    pub fn available(&self) -> &[u32] {
+        &self.available[..self.available_len as usize]
+    }
+}
+
+impl fmt::Debug for VersionInformation {
+    fn fmt(&self, f: &mut fmt::Formatter<'_>) -> fmt::Result {
+        f.debug_struct("VersionInformation").field("chosen", &self.chosen).field("available", &self.available()).finish()
+    }
+}

@@ -11,13 +11,14 @@ use Rattle.refusal.specs.Outcome.{Outcome, accepted, refused, all}
 use Rattle.connection_id.specs.declared.ConnectionId.{ConnectionId}
 use Rattle.connection_id.specs.ConnectionId.{cid_of, formed_cid, same_cid}
 use Rattle.connection_id.proofs.Laws.{same_exactly, same_told}
+use Rattle.version_information.specs.VersionInformation.{no_versions, formed_versions}
 use Rattle.record.specs.declared.TransportParameters.{TransportParameters}
 use Rattle.record.specs.Optional.{OptionalConnectionId}
 use Rattle.record.specs.Values.{token_in, family_in, address_in, no_reserved, no_order}
 use Rattle.record.specs.Record.{formed_optional, formed_optional_cid, formed_token, formed_optional_token, formed_family, formed_address, formed_reserved, formed_order, well_formed, family_rules}
 use Rattle.rules.specs.declared.Side.{Side}
 use Rattle.rules.specs.declared.Side.TheVariants.{Client, Server}
-use Rattle.rules.specs.Rules.{number_rules, presence_rules, value_rules, legal, check_record}
+use Rattle.rules.specs.Rules.{number_rules, presence_rules, value_rules, legal, check_record, version_rules}
 use Rattle.authentication.specs.declared.SeenConnectionIds.{SeenConnectionIds}
 use Rattle.authentication.specs.Authentication.{formed_seen, has_needed, retry_as_seen, as_seen, authenticate_cids}
 use Rattle.authentication.specs.OtherEnd.{Formed, Same, Carries, ForServer, ForClient, Both, OtherEnd}
@@ -96,6 +97,7 @@ asked size initial original retry =
       retry_src_cid = retry;
       stateless_reset_token = token_in none;
       preferred_address = address_in none;
+      version_information = no_versions;
       grease_transport_parameter = no_reserved;
       write_order = no_order;
     }
@@ -114,7 +116,7 @@ unfolding well_formed
 cids_formed r h = let a = all_at _ h in record { original = a 6; initial = a 7; retry = a 8 }
 
 unlawful_formed : (r : TransportParameters) → well_formed r ≡ true → well_formed (unlawful r) ≡ true
-unfolding asked unlawful all cid_of formed_cid no_reserved no_order token_in address_in family_in formed_optional formed_token formed_optional_token formed_family formed_address formed_reserved formed_order well_formed
+unfolding asked unlawful all cid_of formed_cid no_reserved no_order token_in address_in family_in formed_optional formed_token formed_optional_token formed_family formed_address formed_reserved formed_order formed_versions no_versions well_formed
 unlawful_formed r h = let k = cids_formed r h in rw (k.original, k.initial, k.retry)
 
 not_legal : (side : Side) (r : TransportParameters) → legal side (unlawful r) ≡ false
@@ -147,7 +149,7 @@ seen_with : List ℕ → SeenConnectionIds
 seen_with v = record { initial_src_cid = cid_of v; original_dst_cid = cid_of []; retry_src_cid = none_id }
 
 lawful : (side : Side) (i : Outcome (Unit {0})) → (i ≡ accepted tt) ⊎ ((i ≡ refused 13) ⊎ (i ≡ refused 14)) → Lawful side i
-unfolding some_id none_id asked seen_with all cid_of formed_cid same_cid no_reserved no_order token_in address_in family_in formed_optional formed_optional_cid formed_token formed_optional_token formed_family formed_address formed_reserved formed_order well_formed family_rules number_rules presence_rules value_rules legal check_record formed_seen has_needed retry_as_seen as_seen authenticate_cids
+unfolding some_id none_id asked seen_with all cid_of formed_cid same_cid no_reserved no_order token_in address_in family_in formed_optional formed_optional_cid formed_token formed_optional_token formed_family formed_address formed_reserved formed_order well_formed family_rules number_rules presence_rules value_rules legal check_record formed_seen has_needed retry_as_seen as_seen authenticate_cids formed_versions no_versions version_rules
 lawful Client i (inl e) = record { r = asked 1200 some_id some_id none_id; seen = seen_with []; formed = (refl, refl); legal = refl; answer = sym e }
 lawful Server i (inl e) = record { r = asked 1200 some_id none_id none_id; seen = seen_with []; formed = (refl, refl); legal = refl; answer = sym e }
 lawful Client i (inr (inl e)) = record { r = asked 1200 none_id some_id none_id; seen = seen_with []; formed = (refl, refl); legal = refl; answer = sym e }

@@ -16,6 +16,7 @@ use Rattle.varint.specs.Number.{bound}
 use Rattle.connection_id.specs.declared.ConnectionId.{ConnectionId}
 use Rattle.connection_id.specs.ConnectionId.{formed_cid}
 use Rattle.words.proofs.Laws.{every_at, zeros_replicate}
+use Rattle.version_information.specs.VersionInformation.{formed_versions}
 use Rattle.record.specs.declared.TransportParameters.{TransportParameters}
 use Rattle.record.specs.Optional.{OptionalNumber}
 use Rattle.std.specs.Prelude.{None, Some}
@@ -80,7 +81,7 @@ reserved_formed d payload h k =
     let m : length payload ≤ 16 = omega arith in
     rw (eq-eqb _ _ n, lt-ltb _ _ (id_below d h), le-leb _ _ m, drop-append_seam payload, zeros_replicate, eq-eqb _ _ (id_reserved d))
 
-order_formed : (order : List ℕ) → length order ≡ 21 → formed_order (order_from order) ≡ true
+order_formed : (order : List ℕ) → length order ≡ 22 → formed_order (order_from order) ≡ true
 unfolding formed_order order_from all
 order_formed order h = rw h
 
@@ -94,10 +95,11 @@ record Defaults (r : TransportParameters) : Type 0 where
   address : formed_address r.preferred_address ≡ true
   original : formed_optional_cid r.original_dst_cid ≡ true
   retry : formed_optional_cid r.retry_src_cid ≡ true
+  versions : formed_versions r.version_information ≡ true
 
 defaults_formed : (r : TransportParameters) → well_formed r ≡ true → Defaults r
 unfolding well_formed
-defaults_formed r h = let a = all_at _ h in record { token = a 3; address = a 5; original = a 6; retry = a 8 }
+defaults_formed r h = let a = all_at _ h in record { token = a 3; address = a 5; original = a 6; retry = a 8; versions = a 10 }
 
 -- the tests that a record passes
 record Passed (s : Settings) (cid : ConnectionId) (draw : ℕ) (payload order : List ℕ) (r : TransportParameters) : Type 0 where
@@ -137,6 +139,7 @@ record_formed s cid draw payload order r p =
       cid_formed cid p.formed,
       k.retry,
       delay_formed,
+      k.versions,
       order_formed order (order_length order p.ordered),
     )
 

@@ -90,6 +90,7 @@ record_from s cid reserved order =
       retry_src_cid = default_record.retry_src_cid;
       stateless_reset_token = default_record.stateless_reset_token;
       preferred_address = default_record.preferred_address;
+      version_information = default_record.version_information;
       grease_transport_parameter = reserved;
       write_order = order;
     }

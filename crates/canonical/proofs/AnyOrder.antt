@@ -14,7 +14,8 @@ use Rattle.catalogue.specs.Catalogue.{places}
 use Rattle.record.specs.Values.{Values, no_values, upd}
 use Rattle.reader.specs.Reading.{parse}
 use Rattle.reader.proofs.Run.{parse_nil, upd_at}
-use Rattle.order.specs.Order.{member, distinct}
+use Rattle.words.specs.Words.{member}
+use Rattle.order.specs.Order.{distinct}
 use Rattle.writer.specs.Writing.{concat_of}
 use Rattle.order.proofs.Orders.{first, full}
 

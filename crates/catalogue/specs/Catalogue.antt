@@ -1,6 +1,6 @@
--- The catalogue of transport parameters (RFC 9000 section 18.2, RFC 9221 section 3, RFC 9287 section 3, draft-ietf-quic-ack-frequency-08
--- section 3): identifier, kind and default by place, which values fit a kind, and a parameter on the wire (RFC 9000 section 18).
-use Rattle.std.specs.Prelude.{ℕ, suc, ◌+◌, ◌^◌, List, [], ◌∷◌, ◌++◌, Bool, false, length, get_or, take, replicate, ltb, leb, eqb}
+-- The catalogue of transport parameters (RFC 9000 section 18.2, RFC 9221 section 3, RFC 9287 section 3, RFC 9368 section 3,
+-- draft-ietf-quic-ack-frequency-08 section 3): identifier, kind and default by place, which values fit a kind, and a parameter on the wire (RFC 9000 section 18).
+use Rattle.std.specs.Prelude.{ℕ, suc, ◌+◌, ◌%◌, ◌^◌, List, [], ◌∷◌, ◌++◌, Bool, false, length, get_or, take, replicate, ltb, leb, eqb}
 use Rattle.std.proofs.Math.Option.{Option, none, some}
 use Rattle.refusal.specs.Outcome.{Outcome, accepted, refused, pick, all}
 use Rattle.varint.specs.Number.{bound, read_number, number_bytes}
@@ -8,24 +8,24 @@ use Rattle.varint.specs.declared.Decoded.{Decoded}
 use Rattle.words.specs.Words.{zeros}
 
 abbrev pub places : ℕ
-places = 21
+places = 22
 
 -- the identifier of each place. Place 11 is the reserved parameter's, which has none of its own: no number on the wire is 2 ^ 62
 unfoldable pub ids : List ℕ
 ids =
     0x01 ∷ 0x03 ∷ 0x04 ∷ 0x05 ∷ 0x06 ∷ 0x07 ∷ 0x08 ∷ 0x09 ∷ 0x0a ∷ 0x0b ∷ 0x0e ∷ 2 ^ 62 ∷ 0x02 ∷ 0x0c ∷ 0x20 ∷ 0x0d ∷ 0x00 ∷ 0x0f ∷ 0x10
-    ∷ 0x2ab2 ∷ 0xff04de1b ∷ []
+    ∷ 0x2ab2 ∷ 0xff04de1b ∷ 0x11 ∷ []
 
 -- of places 0 to 10
 unfoldable pub defaults : List ℕ
 defaults = 0 ∷ 65527 ∷ 0 ∷ 0 ∷ 0 ∷ 0 ∷ 0 ∷ 0 ∷ 3 ∷ 25 ∷ 2 ∷ []
 
 pub data Kind : Type 0 where
-  number flag cid token address reserved : Kind
+  number flag cid token address versions reserved : Kind
 
 -- from place 11 on
 unfoldable pub other_kinds : List Kind
-other_kinds = reserved ∷ token ∷ flag ∷ number ∷ address ∷ cid ∷ cid ∷ cid ∷ flag ∷ number ∷ []
+other_kinds = reserved ∷ token ∷ flag ∷ number ∷ address ∷ cid ∷ cid ∷ cid ∷ flag ∷ number ∷ versions ∷ []
 
 unfoldable pub kinds : List Kind
 unfolding other_kinds
@@ -44,6 +44,7 @@ widest flag = 0
 widest cid = 20
 widest token = 16
 widest address = 61
+widest versions = 68
 widest reserved = 16
 
 -- where x first stands, or the length
@@ -51,7 +52,7 @@ abbrev pub index_of : ℕ → List ℕ → ℕ
 index_of x [] = 0
 index_of x (y ∷ ys) = pick (eqb x y) 0 (suc (index_of x ys))
 
--- the place of an identifier, which is a number below 2 ^ 62; 21 if it is unknown
+-- the place of an identifier, which is a number below 2 ^ 62; 22 if it is unknown
 unfoldable pub place_of : ℕ → ℕ
 place_of id = pick (ltb id bound) (index_of id ids) places
 
@@ -64,13 +65,14 @@ fills n (refused e) = false
 abbrev pub id_length : List ℕ → ℕ
 id_length v = get_or v 24 0
 
--- a value that uses exactly its bytes
+-- a value that uses exactly its bytes; of version information, a chosen version and at most 16 available ones, four bytes each
 unfoldable pub fits : Kind → List ℕ → Bool
 fits number v = fills (length v) (read_number v)
 fits flag v = eqb (length v) 0
 fits cid v = leb (length v) 20
 fits token v = eqb (length v) 16
 fits address v = all (leb 41 (length v) ∷ leb (id_length v) 20 ∷ eqb (length v) (41 + id_length v) ∷ [])
+fits versions v = all (leb 4 (length v) ∷ leb (length v) 68 ∷ eqb (length v % 4) 0 ∷ [])
 fits reserved v = false
 
 -- an address that can be read as far as its token and offers no family
@@ -80,6 +82,7 @@ illegal flag v = false
 illegal cid v = false
 illegal token v = false
 illegal address v = all (leb 25 (length v) ∷ leb (id_length v) 20 ∷ leb (41 + id_length v) (length v) ∷ zeros (take 24 v) ∷ [])
+illegal versions v = false
 illegal reserved v = false
 
 -- a parameter on the wire: identifier, length and value, numbers in their shortest form

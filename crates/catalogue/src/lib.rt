@@ -6,12 +6,12 @@ ghost use Rattle.std.specs.Prelude.{◌≡◌};
 ghost use Rattle.catalogue.specs.Catalogue.{ids, defaults, place_of};
 
 // How many places the catalogue has; the first of them hold plain numbers.
-pub const PLACES: usize = 21;
+pub const PLACES: usize = 22;
 
 pub const NUMBERS: usize = 11;
 
 // No extension of a record is longer, in bytes.
-pub const MAX_EXTENSION: usize = 314;
+pub const MAX_EXTENSION: usize = 385;
 
 // The places: numbers and no enum, since entries of orders, bits of marks and positions in arrays are these.
 pub const MAX_IDLE_TIMEOUT: usize = 0;
@@ -56,6 +56,8 @@ pub const GREASE_QUIC_BIT: usize = 19;
 
 pub const MIN_ACK_DELAY: usize = 20;
 
+pub const VERSION_INFORMATION: usize = 21;
+
 // The places of each kind that has more than one, a bit for each: one look at a bit tells several kinds from the others.
 pub const NUMBER_PLACES: u32 = ((1 << NUMBERS) - 1)
     | (1 << MAX_DATAGRAM_FRAME_SIZE)
@@ -94,6 +96,7 @@ pub const NAMES: [&str; PLACES] = [
     "retry_src_cid",
     "grease_quic_bit",
     "min_ack_delay",
+    "version_information",
 ];
 
 // Their identifiers. The reserved parameter has none of its own: no number on the wire is 2^62.
@@ -119,6 +122,7 @@ pub const IDS: [u64; PLACES] = [
     0x10,
     0x2ab2,
     0xff04de1b,
+    0x11,
 ];
 
 // Those of the places that hold no plain number, by name.
@@ -139,6 +143,8 @@ pub const RETRY_SRC_CID_ID: u64 = IDS[RETRY_SRC_CID];
 pub const GREASE_QUIC_BIT_ID: u64 = IDS[GREASE_QUIC_BIT];
 
 pub const MIN_ACK_DELAY_ID: u64 = IDS[MIN_ACK_DELAY];
+
+pub const VERSION_INFORMATION_ID: u64 = IDS[VERSION_INFORMATION];
 
 // The defaults of the plain numbers.
 pub const DEFAULTS: [u64; NUMBERS] = [0, 65527, 0, 0, 0, 0, 0, 0, 3, 25, 2];
@@ -183,6 +189,7 @@ pub fn place_of(id: u64) -> usize
             0x0e => ACTIVE_CONNECTION_ID_LIMIT,
             0x0f => INITIAL_SRC_CID,
             0x10 => RETRY_SRC_CID,
+            0x11 => VERSION_INFORMATION,
             0x20 => MAX_DATAGRAM_FRAME_SIZE,
             _ => PLACES,
         };

@@ -1,12 +1,14 @@
 -- The worked examples (a) to (n), some lengths, second copies, other orders, faults of an order, datagram sizes, kinds of fault, the handshakes of RFC 9000
--- section 7.3 and some reports: for each a side, an operation, its input and the outcome. The definitions are those that the contracts of reading, tidying, writing, the length,
+-- section 7.3, some reports and version information: for each a side, an operation, its input and the outcome. The definitions are those that the contracts of reading, tidying, writing, the length,
 -- the report, the first fault of an order, resumption and the connection ID check cite.
-use Rattle.std.specs.Prelude.{ℕ, ◌+◌, ◌≡◌, List, [], ◌∷◌, ◌++◌, Bool, true, false, length, replicate, take}
+use Rattle.std.specs.Prelude.{ℕ, ◌+◌, ◌-◌, ◌≡◌, List, [], ◌∷◌, ◌++◌, Bool, true, false, length, replicate, take}
 use Rattle.std.proofs.Math.Option.{Option, none, some}
 use Rattle.refusal.specs.Outcome.{Outcome, accepted, refused, and_then}
 use Rattle.varint.specs.Number.{bound}
 use Rattle.connection_id.specs.declared.ConnectionId.{ConnectionId}
 use Rattle.connection_id.specs.ConnectionId.{cid_of}
+use Rattle.version_information.specs.declared.VersionInformation.{VersionInformation}
+use Rattle.version_information.specs.VersionInformation.{no_versions}
 use Rattle.record.specs.declared.TransportParameters.{TransportParameters}
 use Rattle.record.specs.Optional.{OptionalNumber, OptionalConnectionId}
 use Rattle.std.specs.Prelude.{None, Some}
@@ -63,9 +65,9 @@ Each (x ∷ xs) = Holds x × Each xs
 abbrev pub goes : ℕ → ℕ → ℕ → ℕ → ℕ → Counts
 goes a b c d n = record { tidied = a; skipped = b; restated = c; saved = d; named = n }
 
--- a record with these numbers, original_dst_cid empty or absent, grease_quic_bit, min_ack_delay and order, and nothing else
-unfoldable pub with : List ℕ → Bool → Bool → OptionalNumber → WriteOrder → TransportParameters
-with numbers original grease delay order =
+-- a record with these numbers, original_dst_cid empty or absent, grease_quic_bit, min_ack_delay, version information and order, and nothing else
+unfoldable pub with : List ℕ → Bool → Bool → OptionalNumber → VersionInformation → WriteOrder → TransportParameters
+with numbers original grease delay versions order =
     record {
       numbers = numbers;
       disable_active_migration = false;
@@ -84,6 +86,7 @@ with numbers original grease delay order =
             connection_id = cid_of [];
             stateless_reset_token = token_of (replicate 16 0);
           };
+      version_information = versions;
       grease_transport_parameter = no_reserved;
       write_order = order;
     }
@@ -93,7 +96,7 @@ abbrev pub numbers : ℕ → ℕ → ℕ → List ℕ
 numbers idle payload delay = idle ∷ payload ∷ 0 ∷ 0 ∷ 0 ∷ 0 ∷ 0 ∷ 0 ∷ 3 ∷ delay ∷ 2 ∷ []
 
 abbrev pub plain : List ℕ → TransportParameters
-plain ns = with ns false false None no_order
+plain ns = with ns false false None no_versions no_order
 
 -- the default record with a datagram size
 abbrev pub datagrams : OptionalNumber → TransportParameters
@@ -103,12 +106,12 @@ abbrev pub reversed : WriteOrder
 reversed =
     record {
       present = true;
-      places = 20 ∷ 19 ∷ 18 ∷ 17 ∷ 16 ∷ 15 ∷ 14 ∷ 13 ∷ 12 ∷ 11 ∷ 10 ∷ 9 ∷ 8 ∷ 7 ∷ 6 ∷ 5 ∷ 4 ∷ 3 ∷ 2 ∷ 1 ∷ 0 ∷ [];
+      places = 21 ∷ 20 ∷ 19 ∷ 18 ∷ 17 ∷ 16 ∷ 15 ∷ 14 ∷ 13 ∷ 12 ∷ 11 ∷ 10 ∷ 9 ∷ 8 ∷ 7 ∷ 6 ∷ 5 ∷ 4 ∷ 3 ∷ 2 ∷ 1 ∷ 0 ∷ [];
     }
 
 -- every place the first
 abbrev pub nowhere : WriteOrder
-nowhere = record { present = true; places = replicate 21 0 }
+nowhere = record { present = true; places = replicate 22 0 }
 
 -- min_ack_delay of a byte; a preferred address, with families of this byte, an ID of n bytes and so many left over
 abbrev pub delayed : ℕ → List ℕ
@@ -143,6 +146,26 @@ s3 = replicate 8 0xd3
 -- a parameter of an ID: original_dst_cid is 0x00, initial_src_cid 0x0f, retry_src_cid 0x10
 abbrev pub says : ℕ → List ℕ → List ℕ
 says id v = id ∷ length v ∷ v
+
+-- versions on the wire, and version information with a chosen version and available ones: version_information is 0x11
+abbrev pub v1 : List ℕ
+v1 = 0x00 ∷ 0x00 ∷ 0x00 ∷ 0x01 ∷ []
+
+abbrev pub v2 : List ℕ
+v2 = 0x6b ∷ 0x33 ∷ 0x43 ∷ 0xcf ∷ []
+
+abbrev pub reserved_version : List ℕ
+reserved_version = 0xba ∷ 0xda ∷ 0x7a ∷ 0xba ∷ []
+
+abbrev pub zero_version : List ℕ
+zero_version = replicate 4 0x00
+
+abbrev pub offering : ℕ → List ℕ → VersionInformation
+offering chosen available =
+    record { present = true; available_len = length available; chosen = chosen; available = available ++ replicate (16 - length available) 0 }
+
+abbrev pub informed : VersionInformation → TransportParameters
+informed versions = with (numbers 0 65527 25) false false None versions no_order
 
 abbrev pub no_retry : OptionalConnectionId
 no_retry = record { present = false; value = cid_of [] }
@@ -181,18 +204,18 @@ examples =
     ∷  -- (k)
     reading Client (0x1b ∷ 0x03 ∷ 0xaa ∷ 0xbb ∷ 0xcc ∷ []) (accepted default_record)
     ∷  -- (l)
-    reading Client (0x00 ∷ 0x00 ∷ []) (accepted (with (numbers 0 65527 25) true false None no_order))
+    reading Client (0x00 ∷ 0x00 ∷ []) (accepted (with (numbers 0 65527 25) true false None no_versions no_order))
     ∷ reading Server (0x00 ∷ 0x00 ∷ []) (refused 2)
     ∷  -- (m)
     reading Client (0xc0 ∷ 0x00 ∷ 0x00 ∷ 0x00 ∷ 0xff ∷ 0x04 ∷ 0xde ∷ 0x1b ∷ 0x04 ∷ 0x80 ∷ 0x00 ∷ 0x61 ∷ 0xa8 ∷ [])
-    (accepted (with (numbers 0 65527 25) false false (Some 25000) no_order))
+    (accepted (with (numbers 0 65527 25) false false (Some 25000) no_versions no_order))
     ∷ reading Client (0xc0 ∷ 0x00 ∷ 0x00 ∷ 0x00 ∷ 0xff ∷ 0x04 ∷ 0xde ∷ 0x1b ∷ 0x04 ∷ 0x80 ∷ 0x00 ∷ 0x61 ∷ 0xa9 ∷ []) (refused 2)
     ∷  -- (n)
-    writing (with (numbers 30000 65527 25) false true None reversed) (0x6a ∷ 0xb2 ∷ 0x00 ∷ 0x01 ∷ 0x04 ∷ 0x80 ∷ 0x00 ∷ 0x75 ∷ 0x30 ∷ [])
+    writing (with (numbers 30000 65527 25) false true None no_versions reversed) (0x6a ∷ 0xb2 ∷ 0x00 ∷ 0x01 ∷ 0x04 ∷ 0x80 ∷ 0x00 ∷ 0x75 ∷ 0x30 ∷ [])
     ∷  -- and its length, in that order, before one is drawn and with one that is no permutation; a default; a number of 2 ^ 62
-    measuring (with (numbers 30000 65527 25) false true None reversed) (accepted 9)
-    ∷ measuring (with (numbers 30000 65527 25) false true None no_order) (accepted 9)
-    ∷ measuring (with (numbers 30000 65527 25) false true None nowhere) (accepted 9)
+    measuring (with (numbers 30000 65527 25) false true None no_versions reversed) (accepted 9)
+    ∷ measuring (with (numbers 30000 65527 25) false true None no_versions no_order) (accepted 9)
+    ∷ measuring (with (numbers 30000 65527 25) false true None no_versions nowhere) (accepted 9)
     ∷ measuring default_record (accepted 0)
     ∷ measuring (plain (numbers bound 65527 25)) (refused 7)
     ∷  -- second copies (request 02): grease_quic_bit, min_ack_delay, and a preferred address that would be 2 by itself; unknown ones are skipped
@@ -202,15 +225,15 @@ examples =
     ∷ reading Client (addressed 0 1 0) (refused 2)
     ∷ reading Client (0x1b ∷ 0x00 ∷ 0x1b ∷ 0x00 ∷ []) (accepted default_record)
     ∷  -- other orders (request 03): (b), an unknown parameter in a longer form and grease_quic_bit
-    reading Client (idle ++ (unknown ++ grease)) (accepted (with (numbers 30000 65527 25) false true None no_order))
-    ∷ reading Client (grease ++ (idle ++ unknown)) (accepted (with (numbers 30000 65527 25) false true None no_order))
+    reading Client (idle ++ (unknown ++ grease)) (accepted (with (numbers 30000 65527 25) false true None no_versions no_order))
+    ∷ reading Client (grease ++ (idle ++ unknown)) (accepted (with (numbers 30000 65527 25) false true None no_versions no_order))
     ∷  -- faults of an order (request 04): a repeat; an entry out of range before one; nothing there; an entry missing; none; one too many
     ordering (3 ∷ 1 ∷ 4 ∷ 1 ∷ 5 ∷ []) (some 3)
-    ∷ ordering (7 ∷ 21 ∷ 7 ∷ []) (some 1)
+    ∷ ordering (7 ∷ 22 ∷ 7 ∷ []) (some 1)
     ∷ ordering [] (some 0)
-    ∷ ordering (take 20 reversed.places) (some 20)
+    ∷ ordering (take 21 reversed.places) (some 21)
     ∷ ordering reversed.places none
-    ∷ ordering (reversed.places ++ (0 ∷ [])) (some 21)
+    ∷ ordering (reversed.places ++ (0 ∷ [])) (some 22)
     ∷  -- datagram sizes (request 05): for resumption absent is 0, and less than 1; reading and writing tell it from 0
     resuming (datagrams None) (datagrams (Some 0)) (accepted tt)
     ∷ resuming (datagrams (Some 0)) (datagrams None) (accepted tt)
@@ -258,4 +281,30 @@ examples =
     ∷ reporting Client (0x40 ∷ 0x0a ∷ 0x40 ∷ 0x02 ∷ 0x40 ∷ 0x03 ∷ []) (accepted (goes 0 0 6 0 1))
     ∷ reporting Client (idle ++ (unknown ++ grease)) (accepted (goes 9 (length unknown) 0 0 2))
     ∷ reporting Client (0x01 ∷ 0x01 ∷ 0x05 ∷ 0x01 ∷ 0x01 ∷ 0x05 ∷ []) (refused 12)
+    ∷  -- version information (request 09): what Chromium sends; a chosen version that is not available, which a client takes; no available ones
+    reading Server (says 0x11 (v1 ++ (v1 ++ reserved_version))) (accepted (informed (offering 1 (1 ∷ 0xbada7aba ∷ []))))
+    ∷ reading Server (says 0x11 (v1 ++ v2)) (refused 2)
+    ∷ reading Client (says 0x11 (v1 ++ v2)) (accepted (informed (offering 1 (0x6b3343cf ∷ []))))
+    ∷ reading Server (says 0x11 v1) (refused 2)
+    ∷ reading Client (says 0x11 v1) (accepted (informed (offering 1 [])))
+    ∷  -- a version of 0, chosen or available; the same before a cut, which is found first
+    reading Client (says 0x11 zero_version) (refused 2)
+    ∷ reading Client (says 0x11 (v1 ++ zero_version)) (refused 2)
+    ∷ reading Client (says 0x11 zero_version ++ (0x01 ∷ [])) (refused 10)
+    ∷  -- no version; a byte too many; 17 available ones; two copies
+    reading Client (says 0x11 []) (refused 11)
+    ∷ reading Client (says 0x11 (v1 ++ (0x00 ∷ []))) (refused 11)
+    ∷ reading Client (0x11 ∷ 0x40 ∷ 0x48 ∷ replicate 72 0xaa) (refused 11)
+    ∷ reading Client (says 0x11 v1 ++ says 0x11 v1) (refused 12)
+    ∷  -- 16 available ones: 68 bytes behind a length of two; 15: 64 bytes; 14: 60, and a length of one
+    reading Client (0x11 ∷ 0x40 ∷ 0x44 ∷ replicate 68 0x01) (accepted (informed (offering 0x01010101 (replicate 16 0x01010101))))
+    ∷ writing (informed (offering 0x01010101 (replicate 16 0x01010101))) (0x11 ∷ 0x40 ∷ 0x44 ∷ replicate 68 0x01)
+    ∷ measuring (informed (offering 1 (replicate 15 1))) (accepted 67)
+    ∷ measuring (informed (offering 1 (replicate 14 1))) (accepted 62)
+    ∷  -- a count of 17; a version in an entry that is not used
+    measuring (informed (record { present = true; available_len = 17; chosen = 1; available = replicate 16 1 })) (refused 7)
+    ∷ measuring (informed (record { present = true; available_len = 15; chosen = 1; available = replicate 16 1 })) (refused 7)
+    ∷  -- in longer forms, tidied; and where the bytes go
+    tidying Client (0x40 ∷ 0x11 ∷ 0x40 ∷ 0x04 ∷ v1) (says 0x11 v1)
+    ∷ reporting Client (0x40 ∷ 0x11 ∷ 0x40 ∷ 0x04 ∷ v1) (accepted (goes 6 0 0 2 1))
     ∷ []

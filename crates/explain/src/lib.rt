@@ -8,7 +8,7 @@ use catalogue::{
     ACK_DELAY_EXPONENT, ACTIVE_CONNECTION_ID_LIMIT, DISABLE_ACTIVE_MIGRATION, GREASE_QUIC_BIT,
     INITIAL_MAX_STREAMS_BIDI, INITIAL_MAX_STREAMS_UNI, INITIAL_SRC_CID, MAX_ACK_DELAY,
     MAX_UDP_PAYLOAD_SIZE, MIN_ACK_DELAY, NAMES, ORIGINAL_DST_CID, PLACES, PREFERRED_ADDRESS,
-    RETRY_SRC_CID, STATELESS_RESET_TOKEN,
+    RETRY_SRC_CID, STATELESS_RESET_TOKEN, VERSION_INFORMATION,
 };
 use front::{Fault, Parameter, Parameters};
 use marks::{is_marked, with_mark};
@@ -17,12 +17,14 @@ use rules::Side;
 use text::out::{Count, Out};
 use value::Received;
 use varint::VarInt;
+use version_information::VersionInformation;
 
-// The parameter at fault: where it starts, its identifier if it can be read, and what is wrong.
+// The parameter at fault: where it starts, its identifier and its value if it can be read, and what is wrong.
 #[derive(Clone, Copy)]
-struct Culprit {
+struct Culprit<'a> {
     at: usize,
     id: Option<u64>,
+    value: &'a [u8],
     fault: Fault,
 }
 
@@ -52,39 +54,52 @@ fn receive(met: u32, place: usize, value: &[u8]) -> Result<(), Fault> {
 
 // The culprit of an extension that is refused: the first fault from the front, as reading finds it. If there is none, a value rule is broken:
 // by the first parameter that breaks one by itself, or else by min_ack_delay, which is held to max_ack_delay.
-fn locate(side: Side, src: &[u8]) -> Option<Culprit> {
+fn locate(side: Side, src: &[u8]) -> Option<Culprit<'_>> {
     let mut met: u32 = 0;
-    let mut breaker: Option<Culprit> = None;
-    let mut delay: Option<Culprit> = None;
+    let mut breaker: Option<Culprit<'_>> = None;
+    let mut delay: Option<Culprit<'_>> = None;
     for (at, read) in (Parameters::<false> { src, at: 0 }) {
         let Parameter { id, start, end, .. } = match read {
             Ok(parameter) => parameter,
             Err(fault) => return Some(Culprit {
                 at,
                 id: None,
+                value: &[],
                 fault,
             }),
         };
         let place = catalogue::place_of(id);
-        let id = Some(id);
         if place < PLACES {
-            if let Err(fault) = receive(met, place, &src[start..end]) {
-                return Some(Culprit { at, id, fault });
+            let culprit = Culprit {
+                at,
+                id: Some(id),
+                value: &src[start..end],
+                fault: Fault::Illegal,
+            };
+            if let Err(fault) = receive(met, place, culprit.value) {
+                return Some(Culprit { fault, ..culprit });
             }
             met = with_mark(met, place);
-            let fault = Fault::Illegal;
             if place == MIN_ACK_DELAY {
-                delay = Some(Culprit { at, id, fault });
+                delay = Some(culprit);
             } else if breaker.is_none() && is_broken(side, &src[at..end]) {
-                breaker = Some(Culprit { at, id, fault });
+                breaker = Some(culprit);
             }
         }
     }
     breaker.or(delay)
 }
 
+// The rule that version information breaks.
+fn version_rule(value: &[u8]) -> &'static str {
+    match VersionInformation::decode(value) {
+        Ok(versions) if versions.chosen == 0 || versions.lists(0) => "a version is 0",
+        _ => "the chosen version is not among the available ones",
+    }
+}
+
 // The rule that the value of a parameter breaks.
-fn rule(side: Side, place: usize) -> &'static str {
+fn rule(side: Side, place: usize, value: &[u8]) -> &'static str {
     match place {
         MAX_UDP_PAYLOAD_SIZE => "under 1200",
         INITIAL_MAX_STREAMS_BIDI | INITIAL_MAX_STREAMS_UNI => "over 2^60",
@@ -92,6 +107,7 @@ fn rule(side: Side, place: usize) -> &'static str {
         MAX_ACK_DELAY => "16384 or more",
         ACTIVE_CONNECTION_ID_LIMIT => "under 2",
         MIN_ACK_DELAY => "longer than max_ack_delay",
+        VERSION_INFORMATION => version_rule(value),
         _ => match side {
             Side::Client => "no address, or an empty connection ID",
             Side::Server => "a client may not send it",
@@ -106,6 +122,8 @@ fn misfit(place: usize) -> &'static str {
         DISABLE_ACTIVE_MIGRATION | GREASE_QUIC_BIT => "not empty",
         PREFERRED_ADDRESS => "not as long as it says, or an ID of over 20 bytes",
         ORIGINAL_DST_CID | INITIAL_SRC_CID | RETRY_SRC_CID => "over 20 bytes",
+        VERSION_INFORMATION =>
+            "not a chosen version and at most 16 available ones, four bytes each",
         _ => "not one number that fills its length",
     }
 }
@@ -123,7 +141,7 @@ fn note_name(out: &mut Out, id: u64)
 
 // Which parameter it is, and what is wrong with it; nothing of one that cannot be read.
 #[tactic(auto, using(text::proofs::Printing::unchanged, text::proofs::Printing::becomes_then))]
-fn note_cause(out: &mut Out, side: Side, c: Culprit)
+fn note_cause(out: &mut Out, side: Side, c: Culprit<'_>)
     ensures { Becomes Stream.Error out.old.fate out.new.fate }
 {
     let Some(id) = c.id else {
@@ -132,7 +150,7 @@ fn note_cause(out: &mut Out, side: Side, c: Culprit)
     let place = catalogue::place_of(id);
     let cause = match c.fault {
         Fault::SecondCopy => "a second copy",
-        Fault::Illegal => rule(side, place),
+        Fault::Illegal => rule(side, place, c.value),
         Fault::Cut | Fault::Misfit => misfit(place),
     };
     note_name(out, id);

@@ -13,7 +13,10 @@ use show::rows::{ADDRESS_FLAG, Kind, Row, row_named};
 use std::error::Error;
 use std::fmt;
 use std::fmt::Display;
-use text::{HexError, parse_hex, put_16, put_list, put_number, set, word};
+use text::{
+    HexError, parse_hex, put_16, put_hex_number, put_list, put_number, set, word, words_of,
+};
+use version_information::VersionInformation;
 
 // What may be amiss in a line.
 #[derive(Clone, Copy, Debug, PartialEq, Eq)]
@@ -26,6 +29,8 @@ pub enum Complaint {
     Flag,
     Address,
     Order,
+    Version,
+    ManyVersions,
     More,
 }
 
@@ -39,7 +44,9 @@ impl Display for Complaint {
             Complaint::Token => write!(f, "not 16 bytes in hexadecimal"),
             Complaint::Flag => write!(f, "a flag has no value, or set"),
             Complaint::Address => write!(f, "not an address and a port"),
-            Complaint::Order => write!(f, "not 21 places"),
+            Complaint::Order => write!(f, "not 22 places"),
+            Complaint::Version => write!(f, "not a version of 1 to 8 hexadecimal digits"),
+            Complaint::ManyVersions => write!(f, "more than 16 available versions"),
             Complaint::More => write!(f, "more than a value"),
         }
     }
@@ -115,6 +122,44 @@ fn put_reserved(line: &[u8], out: &mut [u8], at: usize) -> Result<(), Complaint>
     put_counted(word(line, 2, b' '), out, at + 8, 16)
 }
 
+// A version, with or without 0x before its digits.
+fn put_version(word: &[u8], out: &mut [u8], at: usize) -> Result<(), Complaint> {
+    let digits = word.strip_prefix(b"0x").unwrap_or(word);
+    put_hex_number(digits, out, at).ok_or(Complaint::Version)
+}
+
+// What read shows beside the versions and is ignored: their names; behind the chosen one what stands before the available ones, or in their place.
+fn is_remark(word: &[u8], count: usize) -> bool {
+    match word {
+        [b'(', ..] => 0 < count,
+        b"available:" | b"none" => count == 1,
+        _ => false,
+    }
+}
+
+// The chosen version and the available ones, behind how many of these there are.
+fn put_versions(line: &[u8], out: &mut [u8], at: usize) -> Result<(), Complaint>
+    requires { at < 65536 }
+{
+    let mut count: usize = 0;
+    let mut ended = false;
+    for word in words_of(line, b',').skip(1) {
+        if is_remark(word, count) {
+            ended |= matches!(word, b"none");
+            continue;
+        }
+        unless(!ended, Complaint::Version)?;
+        if VersionInformation::MAX_AVAILABLE < count {
+            return Err(Complaint::ManyVersions);
+        }
+        put_version(word, out, at + 1 + 4 * count)?;
+        count += 1;
+    }
+    let available = count.checked_sub(1).ok_or(Complaint::Version)?;
+    set(out, at, 0, available as u8);
+    Ok(())
+}
+
 // A port, with or without the word before it.
 fn put_port(line: &[u8], out: &mut [u8], at: usize) -> Result<(), Complaint> {
     let port = match word(line, 2, b' ') {
@@ -128,12 +173,13 @@ fn is_flag(value: &[u8]) -> bool {
     matches!(value, b"" | b"set" | b"present")
 }
 
-// How many words a line may have: what stands behind a number is ignored.
+// How many words a line may have: what stands behind a number is ignored, and versions are counted as they are stored.
 fn most_words(row: Row) -> usize {
     match row.0 {
         Kind::Token | Kind::AddressToken | Kind::ConnectionId | Kind::AddressId => 2,
         Kind::Reserved => 3,
         Kind::Order => PLACES + 1,
+        Kind::Versions => usize::MAX,
         _ => 4,
     }
 }
@@ -160,6 +206,7 @@ fn put_value(row: Row, line: &[u8], out: &mut [u8]) -> Result<(), Complaint> {
             put_16(value, out, at).ok_or(Complaint::Address)?;
             put_port(line, out, at + 16)
         }
+        Kind::Versions => put_versions(line, out, at),
         Kind::Order => put_list(line, 1, PLACES + 1, b' ', out, at).ok_or(Complaint::Order),
     }
 }

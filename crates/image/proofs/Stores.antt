@@ -7,19 +7,21 @@ use mathlib.Core.Path.{◌≡◌, refl, ap, ap₂, sym, ◌∙◌}
 use mathlib.Core.List.{List, [], ◌∷◌, ◌++◌, map, map-append, append-nil, append_assoc}
 use mathlib.Core.Bool.{Bool, true, false}
 use mir.Val.{bool_byte}
-use native.Mathlib.Numerals.{add-one}
 use native.Mathlib.Omega.{arith}
 use lib.ListN.{length, get_or, take, drop, set, length-append}
-use lib.Seq.{sets, take-suc, length-take-le}
+use lib.Seq.{sets, length-take-le}
 use borrow.Author.Tests.{le-leb, lt-leb}
 use Rattle.std.proofs.lemmas.List.{drop_all}
 use Rattle.refusal.specs.Outcome.{accepted, refused, front as at_front, store}
 use Rattle.varint.proofs.Bytes.{stored}
 use Rattle.words.proofs.Big.{length_bytes_of}
+use Rattle.version_information.specs.VersionInformation.{all_bytes}
 use Rattle.record.specs.declared.TransportParameters.{TransportParameters}
 use Rattle.record.specs.Record.{least}
-use Rattle.image.specs.Image.{joined, flag_byte, eight_bytes, numbers_image, front_parts, id_parts, address_parts, rest_parts, parts, image_of}
-use Rattle.image.proofs.Places.{stored_then}
+use Rattle.image.specs.Image.{joined, flag_byte, eight_bytes, numbers_image, front_parts, id_parts, address_parts, rest_parts, versions_parts, parts, image_of}
+use Rattle.words.specs.Words.{numbers_bytes}
+use Rattle.words.proofs.Stores.{stored_then}
+use Rattle.words.proofs.Numbers.{numbers_size, numbers_more}
 
 -- PARTS, one after another: a byte; a part; a byte and what stands behind it; several parts; the last ones
 pub data Laid : List ℕ → ℕ → List (List ℕ) → List ℕ → Type 0 where
@@ -67,22 +69,14 @@ pub eight : (x : ℕ) → length (eight_bytes x) ≡ 8
 unfolding eight_bytes
 eight x = length_bytes_of 8 x
 
-pub numbers_size : (ns : List ℕ) → length (numbers_image ns) ≡ length ns * 8
-numbers_size [] = refl
-numbers_size (x ∷ ns) = length-append (eight_bytes x) (numbers_image ns) ∙ omega (arith, eight x, numbers_size ns)
-
 -- NUMBERS: one more
-numbers_append : (xs ys : List ℕ) → numbers_image (xs ++ ys) ≡ numbers_image xs ++ numbers_image ys
-numbers_append [] ys = refl
-numbers_append (x ∷ xs) ys = rw (numbers_append xs ys) (sym (append_assoc (eight_bytes x) (numbers_image xs) (numbers_image ys)))
-
-pub numbers_more : (l v out ys b : List ℕ) (i : ℕ) → i < length v → out ≡ sets l 0 (numbers_image (take i v)) → b ≡ eight_bytes (get_or v i 0)
+pub numbers_stored : (l v out ys b : List ℕ) (i : ℕ) → i < length v → out ≡ sets l 0 (numbers_image (take i v)) → b ≡ eight_bytes (get_or v i 0)
     → ys ≡ sets out (i * 8) b → ys ≡ sets l 0 (numbers_image (take (i + 1) v))
-numbers_more l v out ys b i h e f g =
-    let n : length (take i v) ≡ i = length-take-le i v (omega arith) in
-    let k : 0 + length (numbers_image (take i v)) ≡ i * 8 = omega (arith, numbers_size (take i v)) in
-    stored_then l out ys (numbers_image (take i v)) (eight_bytes (get_or v i 0)) 0 (i * 8) e k (g ∙ ap (sets out (i * 8)) f)
-    ∙ rw (add-one, take-suc v i 0 h, numbers_append (take i v) (get_or v i 0 ∷ []), append-nil (eight_bytes (get_or v i 0)))
+unfolding eight_bytes
+numbers_stored l v out ys b i h e f g = numbers_more 8 l v out ys b i (i * 8) h refl e f g
+
+pub eighty_eight : (ns : List ℕ) → length ns ≡ 11 → length (numbers_image ns) ≡ 88
+eighty_eight ns h = numbers_size 8 ns ∙ omega arith
 
 -- what storing an image answers
 pub no_room : (bs out : List ℕ) (n : ℕ) → length bs ≡ n → length out < n → (refused 5, out) ≡ store bs out
@@ -115,9 +109,10 @@ pub record Sized (r : TransportParameters) : Type 0 where
   pub id : length r.preferred_address.connection_id.bytes ≡ 20
   pub reset : length r.preferred_address.stateless_reset_token.bytes ≡ 16
   pub payload : length r.grease_transport_parameter.payload ≡ 16
-  pub order : length r.write_order.places ≡ 21
+  pub order : length r.write_order.places ≡ 22
+  pub versions : length r.version_information.available ≡ 16
 
--- up to the connection IDs, up to the address, the address, and from the reserved parameter on
+-- up to the connection IDs, up to the address, the address, the reserved parameter and the order, and version information
 abbrev front_sizes : List ℕ
 front_sizes = 88 ∷ 1 ∷ 1 ∷ 1 ∷ 8 ∷ 1 ∷ 8 ∷ []
 
@@ -128,10 +123,13 @@ abbrev address_sizes : List ℕ
 address_sizes = 1 ∷ 1 ∷ 4 ∷ 2 ∷ 1 ∷ 16 ∷ 2 ∷ 1 ∷ 20 ∷ 16 ∷ []
 
 abbrev rest_sizes : List ℕ
-rest_sizes = 1 ∷ 8 ∷ 1 ∷ 16 ∷ 1 ∷ 21 ∷ []
+rest_sizes = 1 ∷ 8 ∷ 1 ∷ 16 ∷ 1 ∷ 22 ∷ []
+
+abbrev versions_sizes : List ℕ
+versions_sizes = 1 ∷ 1 ∷ 68 ∷ []
 
 abbrev pub sizes : List ℕ
-sizes = front_sizes ++ (id_sizes ++ (address_sizes ++ rest_sizes))
+sizes = front_sizes ++ (id_sizes ++ (address_sizes ++ (rest_sizes ++ versions_sizes)))
 
 -- parts of these sizes, how long they are
 long : (ps : List (List ℕ)) (ns : List ℕ) → map length ps ≡ ns → length (joined ps) ≡ sum ns
@@ -140,7 +138,7 @@ long ps ns e = joined_size ps ∙ ap sum e
 module _ (r : TransportParameters) (z : Sized r) where
   front : map length (front_parts r) ≡ front_sizes
   unfolding front_parts
-  front = rw (numbers_size r.numbers, z.numbers, eight (least r.max_datagram_frame_size), eight (least r.min_ack_delay))
+  front = rw (eighty_eight r.numbers z.numbers, eight (least r.max_datagram_frame_size), eight (least r.min_ack_delay))
 
   ids : map length (id_parts r) ≡ id_sizes
   unfolding id_parts
@@ -154,19 +152,28 @@ module _ (r : TransportParameters) (z : Sized r) where
   unfolding rest_parts
   rest = rw (eight r.grease_transport_parameter.id, z.payload, z.order)
 
+  versions : map length (versions_parts r.version_information) ≡ versions_sizes
+  unfolding versions_parts all_bytes
+  versions =
+      let vs : List ℕ = r.version_information.chosen ∷ r.version_information.available in
+      let n : length (numbers_bytes 4 vs) ≡ 68 = numbers_size 4 vs ∙ omega (arith, z.versions) in
+      rw n
+
   pub parts_sizes : map length (parts r) ≡ sizes
   unfolding parts
-  parts_sizes = simp map-append (rw (front, ids, address, rest))
+  parts_sizes = simp map-append (rw (front, ids, address, rest, versions))
 
-  pub image_size : length (image_of r) ≡ 303
+  pub image_size : length (image_of r) ≡ 374
   unfolding image_of
   image_size = long (parts r) sizes parts_sizes
 
-  pub record_stored : (out m1 m2 m3 ys : List ℕ) → m1 ≡ sets out 0 (joined (front_parts r)) → m2 ≡ sets m1 108 (joined (id_parts r))
-      → m3 ≡ sets m2 191 (joined (address_parts r.preferred_address)) → ys ≡ sets m3 255 (joined (rest_parts r)) → ys ≡ sets out 0 (image_of r)
+  pub record_stored : (out m1 m2 m3 m4 ys : List ℕ) → m1 ≡ sets out 0 (joined (front_parts r)) → m2 ≡ sets m1 108 (joined (id_parts r))
+      → m3 ≡ sets m2 191 (joined (address_parts r.preferred_address)) → m4 ≡ sets m3 255 (joined (rest_parts r))
+      → ys ≡ sets m4 304 (joined (versions_parts r.version_information)) → ys ≡ sets out 0 (image_of r)
   unfolding image_of parts
-  record_stored out m1 m2 m3 ys e1 e2 e3 e4 =
+  record_stored out m1 m2 m3 m4 ys e1 e2 e3 e4 e5 =
       laid out 0 (parts r)
       (group {k = 108} (front_parts r) e1 (ap (λ n. 0 + n) (long (front_parts r) front_sizes front))
       (group {k = 191} (id_parts r) e2 (ap (λ n. 108 + n) (long (id_parts r) id_sizes ids))
-      (group {k = 255} (address_parts r.preferred_address) e3 (ap (λ n. 191 + n) (long (address_parts r.preferred_address) address_sizes address)) (last {ps = rest_parts r} e4))))
+      (group {k = 255} (address_parts r.preferred_address) e3 (ap (λ n. 191 + n) (long (address_parts r.preferred_address) address_sizes address))
+      (group {k = 304} (rest_parts r) e4 (ap (λ n. 255 + n) (long (rest_parts r) rest_sizes rest)) (last {ps = versions_parts r.version_information} e5)))))

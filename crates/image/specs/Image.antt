@@ -1,9 +1,11 @@
--- The images of records and connection IDs, in 303 and 21 bytes: the form in which the C interface passes them. Numbers have the high
+-- The images of records and connection IDs, in 374 and 21 bytes: the form in which the C interface passes them. Numbers have the high
 -- byte first, a flag is 0 or 1, and what is absent is all zero. First what an image is made of, then what stands at its places.
-use Rattle.std.specs.Prelude.{ℕ, zero, suc, ◌+◌, List, [], ◌∷◌, ◌++◌, Bool, ◌||◌, length, get_or, take, drop, leb, eqb}
+use Rattle.std.specs.Prelude.{ℕ, ◌+◌, List, [], ◌∷◌, ◌++◌, Bool, ◌||◌, length, get_or, take, drop, leb, eqb}
 use Rattle.refusal.specs.Outcome.{Outcome, accepted, refused, pick, all}
-use Rattle.words.specs.Words.{every, value_from, bytes_of}
+use Rattle.words.specs.Words.{every, value_from, bytes_of, numbers_bytes, numbers_of}
 use Rattle.connection_id.specs.declared.ConnectionId.{ConnectionId}
+use Rattle.version_information.specs.declared.VersionInformation.{VersionInformation}
+use Rattle.version_information.specs.VersionInformation.{all_bytes, versions_with}
 use Rattle.record.specs.declared.TransportParameters.{TransportParameters}
 use Rattle.record.specs.Optional.{OptionalNumber}
 use Rattle.std.specs.Prelude.{None, Some}
@@ -13,7 +15,7 @@ use Rattle.record.specs.Values.{Family, token_of, to_v4, to_v6, of_v4, of_v6}
 use Rattle.record.specs.Record.{is_present, least}
 
 abbrev pub record_size : ℕ
-record_size = 303
+record_size = 374
 
 abbrev pub cid_size : ℕ
 cid_size = 21
@@ -33,8 +35,7 @@ unfoldable pub eight_bytes : ℕ → List ℕ
 eight_bytes x = bytes_of 8 x
 
 abbrev pub numbers_image : List ℕ → List ℕ
-numbers_image [] = []
-numbers_image (x ∷ xs) = eight_bytes x ++ numbers_image xs
+numbers_image xs = numbers_bytes 8 xs
 
 -- 0 if absent
 abbrev pub optional_parts : OptionalNumber → List (List ℕ)
@@ -75,8 +76,12 @@ rest_parts r =
     ∷ (r.grease_transport_parameter.payload_len ∷ []) ∷ r.grease_transport_parameter.payload
     ∷ flag r.write_order.present ∷ r.write_order.places ∷ []
 
+-- version information: the flag, how many versions are available, the chosen one, all sixteen places of the others
+unfoldable pub versions_parts : VersionInformation → List (List ℕ)
+versions_parts i = flag i.present ∷ (i.available_len ∷ []) ∷ all_bytes i ∷ []
+
 unfoldable pub parts : TransportParameters → List (List ℕ)
-parts r = front_parts r ++ (id_parts r ++ (address_parts r.preferred_address ++ rest_parts r))
+parts r = front_parts r ++ (id_parts r ++ (address_parts r.preferred_address ++ (rest_parts r ++ versions_parts r.version_information)))
 
 unfoldable pub image_of : TransportParameters → List ℕ
 image_of r = joined (parts r)
@@ -95,8 +100,7 @@ abbrev pub number_at : ℕ → ℕ → List ℕ → ℕ
 number_at at n s = value_from 0 (part at n s)
 
 abbrev pub numbers_at : ℕ → ℕ → List ℕ → List ℕ
-numbers_at zero at s = []
-numbers_at (suc n) at s = number_at at 8 s ∷ numbers_at n (at + 8) s
+numbers_at n at s = numbers_of 8 n (drop at s)
 
 unfoldable pub optional_at : ℕ → List ℕ → OptionalNumber
 optional_at at s = pick (flag_at at s) (Some (number_at (at + 1) 8 s)) None
@@ -130,15 +134,16 @@ record_at s =
       retry_src_cid = optional_cid_at 152 s;
       stateless_reset_token = record { present = flag_at 174 s; value = token_of (part 175 16 s) };
       preferred_address = address_at s;
+      version_information = versions_with (flag_at 304 s) (get_or s 305 0) (part 306 68 s);
       grease_transport_parameter
           = record { present = flag_at 255 s; id = number_at 256 8 s; payload = part 265 16 s; payload_len = get_or s 264 0 };
-      write_order = record { present = flag_at 281 s; places = part 282 21 s };
+      write_order = record { present = flag_at 281 s; places = part 282 22 s };
     }
 
--- IMAGES: 303 bytes, flags that are 0 or 1, and 0 for a number that is absent. Whatever else stands there is the record's, well formed
+-- IMAGES: 374 bytes, flags that are 0 or 1, and 0 for a number that is absent. Whatever else stands there is the record's, well formed
 -- or not
 unfoldable pub flag_places : List ℕ
-flag_places = 88 ∷ 89 ∷ 90 ∷ 99 ∷ 108 ∷ 130 ∷ 152 ∷ 174 ∷ 191 ∷ 192 ∷ 199 ∷ 255 ∷ 281 ∷ []
+flag_places = 88 ∷ 89 ∷ 90 ∷ 99 ∷ 108 ∷ 130 ∷ 152 ∷ 174 ∷ 191 ∷ 192 ∷ 199 ∷ 255 ∷ 281 ∷ 304 ∷ []
 
 unfoldable pub flags_hold : List ℕ → Bool
 flags_hold s = every (λ p. leb (get_or s p 0) 1) flag_places

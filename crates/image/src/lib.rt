@@ -1,4 +1,4 @@
-// The images of records and connection IDs, in 303 and 21 bytes: the form in which the C interface passes them. Crate imaged reads them.
+// The images of records and connection IDs, in 374 and 21 bytes: the form in which the C interface passes them. Crate imaged reads them.
 #![tactic(auto)]
 
 ghost use Rattle.std.specs.Prelude.{◌≡◌, ◌∷◌, ◌+◌, ◌≤◌, length};
@@ -6,15 +6,16 @@ ghost use Rattle.std.proofs.lemmas.List.Edits.{sets};
 ghost use Rattle.refusal.specs.Answer.{outcome_of};
 ghost use Rattle.refusal.specs.Outcome.{store};
 ghost use Rattle.record.specs.Values.{of_address};
-ghost use Rattle.image.specs.Image.{numbers_image, cid_image, optional_parts, optional_cid_parts, family_parts, address_parts, joined, front_parts, id_parts, rest_parts, image_of};
+ghost use Rattle.image.specs.Image.{numbers_image, cid_image, optional_parts, optional_cid_parts, family_parts, address_parts, joined, front_parts, id_parts, rest_parts, versions_parts, image_of};
 
 use catalogue::NUMBERS;
 use connection_id::ConnectionId;
 use record::{Optional, PreferredAddress, SocketAddr, TransportParameters};
 use refusal::Refusal;
+use version_information::VersionInformation;
 
 // The sizes of the images, in bytes.
-pub const RECORD_SIZE: usize = 303;
+pub const RECORD_SIZE: usize = 374;
 
 pub const CID_SIZE: usize = 21;
 
@@ -38,7 +39,7 @@ fn put_behind<const N: usize>(first: u8, bytes: [u8; N], at: usize, out: &mut [u
     put_bytes(bytes, at + 1, out);
 }
 
-#[tactic(auto, using(crate::proofs::Stores::numbers_more, crate::proofs::Stores::numbers_size), unfolding(crate::specs::Image::eight_bytes))]
+#[tactic(auto, using(crate::proofs::Stores::numbers_stored, crate::proofs::Stores::eighty_eight), unfolding(crate::specs::Image::eight_bytes, words::specs::Words::numbers_bytes))]
 fn put_numbers(numbers: &[u64; NUMBERS], out: &mut [u8; RECORD_SIZE])
     ensures stored { out.new ≡ sets out.old 0 (numbers_image numbers.now) }
     ensures size { length (numbers_image numbers.now) ≡ 88 }
@@ -85,7 +86,8 @@ fn put_family<const N: usize>(a: &SocketAddr<N>, at: usize, out: &mut [u8])
     put_bytes(a.port.to_be_bytes(), at + 1 + N, out);
 }
 
-// The parts of a record's image: up to the connection IDs, up to the address, the address, and from the reserved parameter on.
+// The parts of a record's image: up to the connection IDs, up to the address, the address, the reserved parameter and the order, and
+// version information.
 fn put_front(r: &TransportParameters, out: &mut [u8; RECORD_SIZE])
     ensures { out.new ≡ sets out.old 0 (joined (front_parts r.now)) }
 {
@@ -131,6 +133,13 @@ fn put_rest(r: &TransportParameters, out: &mut [u8; RECORD_SIZE])
     put_behind(u8::from(order.present), order.places, 281, out);
 }
 
+fn put_versions(v: &VersionInformation, out: &mut [u8; RECORD_SIZE])
+    ensures { out.new ≡ sets out.old 304 (joined (versions_parts v.now)) }
+{
+    out[304] = u8::from(v.present);
+    put_behind(v.available_len, v.to_bytes(), 305, out);
+}
+
 // Stores the image of a record at the front of `out`.
 #[tactic(auto, using(crate::proofs::Stores::image_size, crate::proofs::Stores::no_room))]
 pub fn image_to(r: TransportParameters, out: &mut [u8]) -> Result<usize, Refusal>
@@ -143,6 +152,7 @@ pub fn image_to(r: TransportParameters, out: &mut [u8]) -> Result<usize, Refusal
     put_ids(&r, image);
     put_address(&r.preferred_address, image);
     put_rest(&r, image);
+    put_versions(&r.version_information, image);
     Ok(RECORD_SIZE)
 }
 

@@ -3,21 +3,24 @@
 --     size             how long that is
 --     cid_from_image   a connection ID of 20 bytes, from its image
 use Prim.Native.Nat.{ℕ, zero, suc, ◌+◌, ◌^◌, ◌<◌}
-use mathlib.Core.Path.{◌≡◌, refl, ap, ap₂, sym, ◌∙◌}
-use mathlib.Core.List.{List, [], ◌∷◌, ◌++◌, map, append_assoc}
+use mathlib.Core.Path.{◌≡◌, refl, ap, sym, ◌∙◌}
+use mathlib.Core.List.{List, [], ◌∷◌, ◌++◌, map}
 use mathlib.Core.Bool.{Bool, true, false, ◌||◌}
 use native.Mathlib.Nat.{add-zero, mod-eq_of_lt}
 use native.Mathlib.Omega.{arith}
 use lib.ListN.{length, get_or, drop, get_or-map}
-use lib.Seq.{take_at, take_all, drop_at, drop-drop, drop-append-add, get_or-drop}
+use lib.Seq.{take_at, take_all, drop-append-add, get_or-drop}
 use lib.Dec.{T, leb, ltb, eqb, lit<}
-use borrow.Author.Tests.{eqb-true, ltb-true, eq-eqb}
-use Rattle.std.proofs.lemmas.Bool.{and_parts}
+use borrow.Author.Tests.{eqb-true, ltb-true, lt-ltb, eq-eqb}
 use Rattle.refusal.specs.Outcome.{accepted, pick, all}
 use Rattle.refusal.proofs.Laws.{all_at}
 use Rattle.varint.specs.Number.{bound}
 use Rattle.words.proofs.Big.{value_bytes_of}
-use Rattle.words.specs.Words.{every, value_from, bytes_of}
+use Rattle.words.specs.Words.{every, value_from, bytes_of, numbers_of}
+use Rattle.words.proofs.Laws.{every_at, every_of}
+use Rattle.words.proofs.Numbers.{numbers_whole}
+use Rattle.version_information.specs.VersionInformation.{versions_with}
+use Rattle.version_information.proofs.Laws.{formed_facts, all_with}
 use Rattle.connection_id.specs.declared.ConnectionId.{ConnectionId}
 use Rattle.connection_id.specs.ConnectionId.{formed_cid}
 use Rattle.record.specs.declared.TransportParameters.{TransportParameters}
@@ -26,8 +29,8 @@ use Rattle.std.specs.Prelude.{None, Some}
 use Rattle.record.specs.Optional.{OptionalConnectionId}
 use Rattle.record.specs.Values.{Family, of_v4, of_v6}
 use Rattle.record.specs.Record.{is_present, least, well_formed, formed_optional, formed_optional_cid, formed_token, formed_optional_token, formed_family, formed_address, formed_reserved, formed_order}
-use Rattle.image.specs.Image.{part, flag_byte, eight_bytes, numbers_image, numbers_at, optional_at, cid_image, cid_at, optional_cid_at, address_at, joined, front_parts, id_parts, address_parts, rest_parts, parts, image_of, record_at, flag_places, flags_hold, zero_if_absent, is_image, record_from, cid_from}
-use Rattle.image.proofs.Stores.{eight, sizes, Sized, parts_sizes, image_size}
+use Rattle.image.specs.Image.{part, flag_at, flag_byte, eight_bytes, numbers_at, optional_at, cid_image, cid_at, optional_cid_at, address_at, joined, front_parts, id_parts, address_parts, rest_parts, versions_parts, parts, image_of, record_at, flag_places, flags_hold, zero_if_absent, is_image, record_from, cid_from}
+use Rattle.image.proofs.Stores.{sizes, Sized, parts_sizes, image_size}
 
 -- A PART, by its number: where it begins, and that it stands there
 abbrev before : ℕ → List ℕ → ℕ
@@ -57,13 +60,8 @@ eight_back : (x : ℕ) → x < bound → value_from 0 (eight_bytes x) ≡ x
 unfolding eight_bytes
 eight_back x h = number_back 8 x (omega arith)
 
-numbers_back : (ns s : List ℕ) (at : ℕ) (t : List ℕ) → every (λ x. ltb x bound) ns ≡ true → drop at s ≡ numbers_image ns ++ t → numbers_at (length ns) at s ≡ ns
-numbers_back [] s at t h e = refl
-numbers_back (x ∷ ns) s at t h e =
-    let f : drop at s ≡ eight_bytes x ++ (numbers_image ns ++ t) = e ∙ append_assoc (eight_bytes x) (numbers_image ns) t in
-    let p = and_parts (ltb x bound) (every (λ x. ltb x bound) ns) h in
-    ap₂ (λ (y : ℕ) (ys : List ℕ). y ∷ ys) (rw (f, take_at (eight_bytes x) (numbers_image ns ++ t) 8 (eight x)) (eight_back x (ltb-true _ _ p.0)))
-    (numbers_back ns s (at + 8) t p.1 (sym (drop-drop 8 at s) ∙ rw f (drop_at (eight_bytes x) (numbers_image ns ++ t) 8 (eight x))))
+below : (ns : List ℕ) → every (λ x. ltb x bound) ns ≡ true → every (λ x. ltb x (256 ^ 8)) ns ≡ true
+below ns h = every_of (λ x. ltb x (256 ^ 8)) ns λ p k. lt-ltb _ _ (omega (arith, ltb-true _ _ (every_at (λ x. ltb x bound) ns h p k)))
 
 optional_small : (o : OptionalNumber) → formed_optional o ≡ true → least o < bound
 unfolding formed_optional
@@ -122,47 +120,54 @@ module _ (r : TransportParameters) (h : well_formed r ≡ true) where
         id = cid_long r.preferred_address.connection_id (all_at _ address_formed 2);
         reset = eqb-true _ _ (all_at _ address_formed 3);
         payload = reserved_formed.0;
-        order = eqb-true _ _ (all_at _ (all_at _ h 10) 0);
+        order = eqb-true _ _ (all_at _ (all_at _ h 11) 0);
+        versions = (formed_facts r.version_information (all_at _ h 10)).long;
       }
 
   optional_formed : (least r.max_datagram_frame_size < bound) × (least r.min_ack_delay < bound)
   unfolding well_formed
   optional_formed = (optional_small r.max_datagram_frame_size (all_at _ h 4), optional_small r.min_ack_delay (all_at _ h 9))
 
-  -- a well-formed record's image has 303 bytes
-  pub size : length (image_of r) ≡ 303
+  -- a well-formed record's image has 374 bytes
+  pub size : length (image_of r) ≡ 374
   size = image_size r sized
 
   -- THE LAW: the k-th part stands at its place
-  count : length (parts r) ≡ 34
-  unfolding parts front_parts id_parts address_parts rest_parts
+  count : length (parts r) ≡ 37
+  unfolding parts front_parts id_parts address_parts rest_parts versions_parts
   count = refl
 
-  from : (k : ℕ) → T (ltb k 34) → drop (before k sizes) (image_of r) ≡ get_or (parts r) k [] ++ joined (drop (suc k) (parts r))
+  from : (k : ℕ) → T (ltb k 37) → drop (before k sizes) (image_of r) ≡ get_or (parts r) k [] ++ joined (drop (suc k) (parts r))
   unfolding image_of
   from k t =
-      let l : k < 34 = lit< t in
+      let l : k < 37 = lit< t in
       ap (λ ns. drop (before k ns) (image_of r)) (sym (parts_sizes r sized)) ∙ from_part (parts r) k (omega (arith, count))
 
-  field : (k : ℕ) → T (ltb k 34) → part (before k sizes) (get_or sizes k 0) (image_of r) ≡ get_or (parts r) k []
+  field : (k : ℕ) → T (ltb k 37) → part (before k sizes) (get_or sizes k 0) (image_of r) ≡ get_or (parts r) k []
   field k t =
       let n : length (get_or (parts r) k []) ≡ get_or sizes k 0 = sym (get_or-map length (parts r) k []) ∙ ap (λ ns. get_or ns k 0) (parts_sizes r sized) in
       rw (from k t) (take_at (get_or (parts r) k []) (joined (drop (suc k) (parts r))) (get_or sizes k 0) n)
 
-  byte : (k : ℕ) → T (ltb k 34) → get_or (image_of r) (before k sizes) 0 ≡ get_or (get_or (parts r) k [] ++ joined (drop (suc k) (parts r))) 0 0
+  byte : (k : ℕ) → T (ltb k 37) → get_or (image_of r) (before k sizes) 0 ≡ get_or (get_or (parts r) k [] ++ joined (drop (suc k) (parts r))) 0 0
   byte k t = ap (λ i. get_or (image_of r) i 0) (sym (add-zero (before k sizes))) ∙ sym (get_or-drop (before k sizes) (image_of r) 0 0) ∙ ap (λ l. get_or l 0 0) (from k t)
 
-  numbers_whole : numbers_at 11 0 (image_of r) ≡ r.numbers
+  numbers_back : numbers_at 11 0 (image_of r) ≡ r.numbers
   unfolding well_formed parts front_parts
-  numbers_whole =
+  numbers_back =
       ap (λ n. numbers_at n 0 (image_of r)) (sym sized.numbers)
-      ∙ numbers_back r.numbers (image_of r) 0 (joined (drop 1 (parts r))) (all_at _ h 1) (from 0 tt)
+      ∙ ap (numbers_of 8 (length r.numbers)) (from 0 tt)
+      ∙ numbers_whole 8 r.numbers (joined (drop 1 (parts r))) (below r.numbers (all_at _ h 1))
+
+  versions_back : versions_with (flag_at 304 (image_of r)) (get_or (image_of r) 305 0) (part 306 68 (image_of r)) ≡ r.version_information
+  unfolding well_formed parts front_parts id_parts address_parts rest_parts versions_parts
+  versions_back =
+      rw (byte 34 tt, byte 35 tt, field 36 tt, flag_back r.version_information.present) (all_with r.version_information (all_at _ h 10))
 
   record_back : record_at (image_of r) ≡ r
-  unfolding record_at optional_at optional_cid_at cid_at address_at parts front_parts id_parts address_parts rest_parts
+  unfolding record_at optional_at optional_cid_at cid_at address_at parts front_parts id_parts address_parts rest_parts versions_parts
   record_back =
       rw (
-        numbers_whole,
+        numbers_back,
         byte 1 tt,
         byte 2 tt,
         byte 3 tt,
@@ -201,11 +206,12 @@ module _ (r : TransportParameters) (h : well_formed r ≡ true) where
         field 31 tt,
         byte 32 tt,
         field 33 tt,
+        versions_back,
       )
       (simp (flag_back, optional_back))
 
   flags_back : flags_hold (image_of r) ≡ true
-  unfolding flags_hold flag_places parts front_parts id_parts address_parts rest_parts
+  unfolding flags_hold flag_places parts front_parts id_parts address_parts rest_parts versions_parts
   flags_back =
       rw (
         byte 1 tt,
@@ -221,6 +227,7 @@ module _ (r : TransportParameters) (h : well_formed r ≡ true) where
         byte 22 tt,
         byte 28 tt,
         byte 32 tt,
+        byte 34 tt,
       )
       (simp flag_small)
 
@@ -234,7 +241,7 @@ module _ (r : TransportParameters) (h : well_formed r ≡ true) where
   -- a well-formed record, from its image
   pub back : record_from (image_of r) ≡ accepted r
   unfolding record_from is_image all
-  back = rw (eq-eqb (length (image_of r)) 303 size, flags_back, zero_back.0, zero_back.1, record_back)
+  back = rw (eq-eqb (length (image_of r)) 374 size, flags_back, zero_back.0, zero_back.1, record_back)
 
 -- a connection ID of 20 bytes, from its image
 pub cid_from_image : (c : ConnectionId) → length c.bytes ≡ 20 → cid_from (cid_image c) ≡ accepted c

@@ -26,13 +26,13 @@ pub flags_from : List ℕ → ℕ → ℕ → Bool
 flags_from s acc i = leb acc 1 && every (λ p. leb (get_or s p 0) 1) (drop i flag_places)
 
 module _ (s : List ℕ) (acc i : ℕ) where
-  pub flags_more : i < 13 → flags_from s (bit_or acc (get_or s (get_or flag_places i 0) 0)) (i + 1) ≡ flags_from s acc i
+  pub flags_more : i < 14 → flags_from s (bit_or acc (get_or s (get_or flag_places i 0) 0)) (i + 1) ≡ flags_from s acc i
   unfolding flag_places flags_from
   flags_more h =
       rw (add-one, drop-cons flag_places i 0 h, or_flags acc (get_or s (get_or flag_places i 0) 0))
       (and_assoc (leb acc 1) (leb (get_or s (get_or flag_places i 0) 0) 1) (every (λ p. leb (get_or s p 0) 1) (drop (suc i) flag_places)))
 
-  pub flags_none : i ≡ 13 → flags_from s acc i ≡ leb acc 1
+  pub flags_none : i ≡ 14 → flags_from s acc i ≡ leb acc 1
   unfolding flags_from flag_places
   flags_none e = rw e (and-true (leb acc 1))
 
@@ -40,7 +40,7 @@ pub flags_all : (s : List ℕ) → flags_from s 0 0 ≡ flags_hold s
 unfolding flags_from flags_hold
 flags_all s = refl
 
--- what is an image has 303 bytes
-pub image_long : (s : List ℕ) → is_image s ≡ true → length s ≡ 303
+-- what is an image has 374 bytes
+pub image_long : (s : List ℕ) → is_image s ≡ true → length s ≡ 374
 unfolding is_image
 image_long s h = eqb-true _ _ (all_at _ h 0)

@@ -1,9 +1,10 @@
 // The records and connection IDs of images: reading what crate image stores.
 #![tactic(auto)]
 
-ghost use Rattle.std.specs.Prelude.{◌≡◌, [], ◌+◌, ◌≤◌, ◌<◌, length};
+ghost use Rattle.std.specs.Prelude.{◌≡◌, [], ◌+◌, ◌≤◌, ◌<◌, length, get_or};
 ghost use Rattle.refusal.specs.Answer.{outcome_of};
 ghost use Rattle.record.specs.Values.{token_of, of_address};
+ghost use Rattle.version_information.specs.VersionInformation.{versions_with};
 ghost use Rattle.image.specs.Image.{part, flag_at, number_at, numbers_at, optional_at, cid_at, optional_cid_at, address_at, record_at, flags_hold, zero_if_absent, is_image, record_from, cid_from};
 
 use catalogue::NUMBERS;
@@ -14,9 +15,12 @@ use record::{
     TransportParameters, WriteOrder,
 };
 use refusal::Refusal;
+use version_information::VersionInformation;
 
 // Where the flags stand in the image of a record.
-const FLAGS: [usize; 13] = [88, 89, 90, 99, 108, 130, 152, 174, 191, 192, 199, 255, 281];
+const FLAGS: [usize; 14] = [
+    88, 89, 90, 99, 108, 130, 152, 174, 191, 192, 199, 255, 281, 304,
+];
 
 // Bytes at a place, as an array. Here and below `s` and `at` stand apart: images are of two sizes, and a struct of both would be made at each call.
 fn bytes_at<const N: usize>(s: &[u8], at: usize) -> [u8; N]
@@ -122,6 +126,12 @@ fn address_at(s: &[u8; RECORD_SIZE]) -> PreferredAddress
     }
 }
 
+fn versions_at(s: &[u8; RECORD_SIZE]) -> VersionInformation
+    ensures { result ≡ versions_with (flag_at 304 s.now) (get_or s.now 305 0) (part 306 68 s.now) }
+{
+    VersionInformation::from_bytes(flag_at(s, 304), s[305], &bytes_at(s, 306))
+}
+
 fn record_at(s: &[u8; RECORD_SIZE]) -> TransportParameters
     ensures { result ≡ record_at s.now }
 {
@@ -139,6 +149,7 @@ fn record_at(s: &[u8; RECORD_SIZE]) -> TransportParameters
             value: token_at(s, 175),
         },
         preferred_address: address_at(s),
+        version_information: versions_at(s),
         grease_transport_parameter: ReservedTransportParameter {
             present: flag_at(s, 255),
             id: number_at(s, 256),

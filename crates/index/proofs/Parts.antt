@@ -1,5 +1,6 @@
 -- The parts of what is kept, as the definitions have them. Assumes nothing.
 --     none_outside, none_number, none_unmet, of_bytes, there    where a value stands, and where there is none
+--     versions_fit       version information that was met fits
 --     address_long       a preferred address that was met has a connection ID's length
 use Prim.Native.Nat.{ℕ, ◌+◌, ◌≤◌, ◌<◌}
 use mathlib.Core.Path.{◌≡◌, refl, sym, ◌∙◌}
@@ -14,7 +15,7 @@ use borrow.Author.Tests.{leb-true, lt-ltb, le-ltb}
 use Rattle.refusal.specs.Outcome.{pick}
 use Rattle.refusal.proofs.Laws.{all_at, pick_cases}
 use Rattle.marks.specs.Mark.{marked}
-use Rattle.catalogue.specs.Catalogue.{Kind, number, flag, cid, token, address, reserved, places, kind_at, kinds, other_kinds, fits}
+use Rattle.catalogue.specs.Catalogue.{Kind, number, flag, cid, token, address, versions, reserved, places, kind_at, kinds, other_kinds, fits}
 use Rattle.value.proofs.Checks.{number_at_lem, not_number_at}
 use Rattle.index.specs.Index.{Found, id_len, value_at, holds_bytes, value_of, Sound}
 
@@ -42,6 +43,7 @@ module _ (s : List ℕ) (f : Found) (p : ℕ) where
       go cid n = refl
       go token n = refl
       go address n = refl
+      go versions n = refl
       go reserved n = refl
 
   pub there : p < places → marked 0x1047ff p ≡ false → marked f.0 p ≡ true → some (take (get_or f.2 p 0) (drop (get_or f.1 p 0) s)) ≡ value_of s f p
@@ -55,6 +57,22 @@ address_place = refl
 
 pub address_no : kind_at 15 ≡ number → ⊥
 address_no e = let q : address ≡ number = sym address_place ∙ e in cc
+
+-- 21 holds version information
+versions_place : kind_at 21 ≡ versions
+unfolding kind_at kinds other_kinds
+versions_place = refl
+
+pub versions_no : kind_at 21 ≡ number → ⊥
+versions_no e = let q : versions ≡ number = sym versions_place ∙ e in cc
+
+pub versions_fit : (s : List ℕ) (f : Found) → Sound s f → (v : List ℕ) → some v ≡ value_at s f 21 → fits versions v ≡ true
+unfolding value_at
+versions_fit s f i v e = go (marked f.0 21) refl e
+  where
+    go : (b : Bool) → marked f.0 21 ≡ b → some v ≡ pick b (some (take (get_or f.2 21 0) (drop (get_or f.1 21 0) s))) none → fits versions v ≡ true
+    go false m q = cc
+    go true m q = let w : v ≡ take (get_or f.2 21 0) (drop (get_or f.1 21 0) s) = cc in rw w (rw versions_place at (i.fit 21 versions_no m))
 
 module _ (s : List ℕ) (f : Found) (i : Sound s f) where
   abbrev pub span : List ℕ

@@ -13,7 +13,7 @@ use Rattle.refusal.specs.Outcome.{Result, accepted, pick, and_then}
 use Rattle.refusal.proofs.Laws.{inverted, picked}
 use Rattle.marks.specs.Mark.{marked, mark}
 use Rattle.marks.proofs.Laws.{marked_other, unmarked, mark_below}
-use Rattle.catalogue.specs.Catalogue.{Kind, number, flag, cid, token, address, reserved, places, place_of, kind_at, defaults, fits}
+use Rattle.catalogue.specs.Catalogue.{Kind, number, flag, cid, token, address, versions, reserved, places, place_of, kind_at, defaults, fits}
 use Rattle.catalogue.proofs.Places.{number_kind}
 use Rattle.rules.specs.declared.Side.{Side}
 use Rattle.front.specs.declared.Fault.{Fault}
@@ -33,6 +33,7 @@ kept_start flag a v n = refl
 kept_start cid a v n = refl
 kept_start token a v n = refl
 kept_start address a v n = refl
+kept_start versions a v n = refl
 kept_start reserved a v n = refl
 
 module _ (s : List ℕ) (a e : ℕ) (ae : a ≤ e) (el : e ≤ length s) where

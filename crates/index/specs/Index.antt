@@ -5,10 +5,11 @@ use Rattle.std.proofs.Math.Option.{Option, none, some}
 use Rattle.refusal.specs.Outcome.{Result, accepted, refused, pick, and_then, all}
 use Rattle.words.specs.Words.{elements}
 use Rattle.marks.specs.Mark.{marked, mark}
-use Rattle.catalogue.specs.Catalogue.{Kind, number, flag, cid, token, address, reserved, places, place_of, kind_at, defaults, fits}
+use Rattle.catalogue.specs.Catalogue.{Kind, number, flag, cid, token, address, versions, reserved, places, place_of, kind_at, defaults, fits}
 use Rattle.record.specs.Optional.{OptionalNumber}
+use Rattle.record.specs.Values.{versions_in}
 use Rattle.rules.specs.declared.Side.{Side}
-use Rattle.rules.specs.Rules.{is_server, number_rules, presence_rules}
+use Rattle.rules.specs.Rules.{is_server, number_rules, presence_rules, version_rules}
 use Rattle.front.specs.declared.Fault.{Fault}
 use Rattle.front.specs.declared.Fault.TheVariants.{Illegal}
 use Rattle.front.specs.Parameter.{located}
@@ -65,6 +66,7 @@ holds_bytes flag = true
 holds_bytes cid = true
 holds_bytes token = true
 holds_bytes address = true
+holds_bytes versions = true
 holds_bytes reserved = true
 
 -- the value at a place; none at one that holds a number
@@ -85,6 +87,7 @@ kept_rules side s f =
     all (
     number_rules (elements 11 0 f.1) (get_or f.1 20 0)
     ∷ presence_rules (is_server side) (marked f.0 16) (marked f.0 15) (marked f.0 18) (marked f.0 12) (id_len s f)
+    ∷ version_rules (is_server side) (versions_in (value_at s f 21))
     ∷ []
     )
 

@@ -8,18 +8,21 @@ ghost use Rattle.marks.specs.Mark.{marked};
 ghost use Rattle.front.specs.Whole.{parameters};
 ghost use Rattle.front.specs.Answer.{fault_outcome};
 ghost use Rattle.tally.specs.Tally.{counts, dropped};
-ghost use Rattle.index.specs.Index.{nothing, index_from, id_len, kept_rules, indexed, counted, value_of, optional_at, Sound};
+ghost use Rattle.record.specs.Values.{versions_in};
+ghost use Rattle.rules.specs.Rules.{is_server, version_rules};
+ghost use Rattle.index.specs.Index.{nothing, index_from, id_len, kept_rules, indexed, counted, value_at, value_of, optional_at, Sound};
 ghost use Rattle.index.specs.Answer.{found_of, scan_outcome, index_outcome, given};
 
 use catalogue::{
     DEFAULTS, MIN_ACK_DELAY, NUMBER_PLACES, NUMBERS, ORIGINAL_DST_CID, PLACES, PREFERRED_ADDRESS,
-    RETRY_SRC_CID, STATELESS_RESET_TOKEN,
+    RETRY_SRC_CID, STATELESS_RESET_TOKEN, VERSION_INFORMATION,
 };
 use front::{Fault, Parameter, Parameters};
 use marks::{is_marked, with_mark};
 use rules::{Microseconds, Presence, Side};
 use tally::{Sums, restates};
 use value::Received;
+use version_information::VersionInformation;
 
 // What is found in an extension: the marks of the places met; and what is kept, by place: the number, or where the value starts; and the value's
 // length. Without a value a number is the default, and everything else 0. The two are no array of structs: nearly twice as long, it takes reading
@@ -44,6 +47,7 @@ const INITIAL: [u64; PLACES] = [
     DEFAULTS[8],
     DEFAULTS[9],
     DEFAULTS[10],
+    0,
     0,
     0,
     0,
@@ -176,6 +180,27 @@ impl<'a> Kept<'a> {
         }
     }
 
+    // The version information received; absent if there was none.
+    #[inline(always)]
+    pub fn versions(&self) -> VersionInformation
+        ensures { result ≡ versions_in (value_at self.now.src.now (found_of self.now.entries) 21) }
+    {
+        match self.value(VERSION_INFORMATION) {
+            Some(v) => VersionInformation::decode(v).unwrap(),
+            None => VersionInformation::default(),
+        }
+    }
+
+    // Whether those of version information do: they do without any, and then none is made.
+    fn are_versions_allowed(&self, side: Side) -> bool
+        ensures { result ≡ version_rules (is_server side) (versions_in (value_at self.now.src.now (found_of self.now.entries) 21)) }
+    {
+        if !self.entries.is_met(VERSION_INFORMATION) {
+            return true;
+        }
+        rules::versions_allowed(side, &self.versions())
+    }
+
     // Whether the value rules hold of what was kept.
     fn is_allowed(&self, side: Side) -> bool
         ensures { result ≡ kept_rules side self.now.src.now (found_of self.now.entries) }
@@ -197,7 +222,10 @@ impl<'a> Kept<'a> {
             token,
             id_len,
         };
-        rules::presence_allowed(side, presence)
+        if !rules::presence_allowed(side, presence) {
+            return false;
+        }
+        self.are_versions_allowed(side)
     }
 }
 

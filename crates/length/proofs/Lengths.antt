@@ -20,17 +20,18 @@ use Rattle.connection_id.proofs.Laws.{cid_facts, cid_length_lem}
 use Rattle.catalogue.specs.Catalogue.{places, id_at, defaults, parameter, parameter_if}
 use Rattle.catalogue.specs.Sum.{sum}
 use Rattle.catalogue.proofs.Sums.{sum_eq}
+use Rattle.version_information.proofs.Laws.{versions_long}
 use Rattle.record.specs.declared.TransportParameters.{TransportParameters}
 use Rattle.record.specs.Optional.{OptionalNumber}
 use Rattle.std.specs.Prelude.{None, Some}
 use Rattle.std.specs.Bool.{then_some}
 use Rattle.record.specs.Optional.{OptionalConnectionId}
 use Rattle.record.specs.declared.ReservedTransportParameter.{ReservedTransportParameter}
-use Rattle.record.specs.Values.{number_out, optional_out, flag_out, cid_out, token_out, address_out, other_values, values_of}
+use Rattle.record.specs.Values.{number_out, optional_out, flag_out, cid_out, token_out, address_out, versions_out, other_values, values_of}
 use Rattle.record.specs.Record.{formed_optional_cid, formed_token, formed_optional_token, formed_reserved, well_formed}
 use Rattle.record.proofs.Address.{address_length_lem}
 use Rattle.writer.specs.Writing.{reserved_bytes, parameter_at, length_of}
-use Rattle.length.specs.Length.{value_length, number_length, number_length_at, optional_length, cid_length, reserved_length, others_length}
+use Rattle.length.specs.Length.{value_length, number_length, number_length_at, optional_length, cid_length, reserved_length, versions_length, others_length}
 
 -- what the code gives for a parameter
 pub not_due : (id n : ℕ) → 0 ≡ value_length false id n
@@ -111,14 +112,19 @@ module _ (r : TransportParameters) (w : well_formed r ≡ true) where
         optional_length_lem (id_at 20) r.min_ack_delay,
       )
 
+  versions_at : versions_length r.version_information ≡ at 21
+  unfolding parameter_at values_of other_values versions_out well_formed
+  versions_at = rw (value_length_lem (id_at 21) _ r.version_information.present _ (versions_long _ (all_at _ w 10)))
+
   -- all together: the length of the record
-  pub all_lengths : sum 11 (number_length_at r.numbers) + others_length r ≡ sum places at
-  all_lengths = let e = sum_eq 11 (number_length_at r.numbers) at number_at_lem in rw (e, others_at) (unfold sum in omega arith)
+  pub all_lengths : sum 11 (number_length_at r.numbers) + others_length r + versions_length r.version_information ≡ sum places at
+  all_lengths = let e = sum_eq 11 (number_length_at r.numbers) at number_at_lem in rw (e, others_at, versions_at) (unfold sum in omega arith)
 
   -- what is returned
-  pub measured : (n m : ℕ) → n ≡ sum 11 (number_length_at r.numbers) → m ≡ others_length r → accepted (n + m) ≡ length_of r
+  pub measured : (n m k : ℕ) → n ≡ sum 11 (number_length_at r.numbers) → m ≡ others_length r → k ≡ versions_length r.version_information
+      → accepted (n + m + k) ≡ length_of r
   unfolding length_of
-  measured n m f g = rw (w, f, g) (ap accepted all_lengths)
+  measured n m k f g h = rw (w, f, g, h) (ap accepted all_lengths)
 
 pub not_measured : (r : TransportParameters) → well_formed r ≡ false → refused 7 ≡ length_of r
 unfolding length_of

@@ -54,7 +54,7 @@ module _ (r : TransportParameters) (n : ℕ) (h : length_of r ≡ accepted n) wh
 
     still_formed : well_formed (drawn r os) ≡ true
     unfolding well_formed drawn
-    still_formed = all_last (_ ∷ _ ∷ _ ∷ _ ∷ _ ∷ _ ∷ _ ∷ _ ∷ _ ∷ _ ∷ []) _ _ is.0 ordered
+    still_formed = all_last (_ ∷ _ ∷ _ ∷ _ ∷ _ ∷ _ ∷ _ ∷ _ ∷ _ ∷ _ ∷ _ ∷ []) _ _ is.0 ordered
 
     same_length : length_of (drawn r os) ≡ accepted n
     unfolding length_of drawn parameter_at values_of other_values

@@ -1,8 +1,9 @@
 -- How long the parameters of a record are, from the lengths of their values alone.
-use Rattle.std.specs.Prelude.{ℕ, ◌+◌, List, Bool, not, length, get_or, eqb}
+use Rattle.std.specs.Prelude.{ℕ, ◌+◌, ◌*◌, List, Bool, not, length, get_or, eqb}
 use Rattle.refusal.specs.Outcome.{pick}
 use Rattle.varint.specs.Number.{number_bytes}
 use Rattle.catalogue.specs.Catalogue.{defaults, id_at}
+use Rattle.version_information.specs.declared.VersionInformation.{VersionInformation}
 use Rattle.record.specs.declared.TransportParameters.{TransportParameters}
 use Rattle.record.specs.Optional.{OptionalNumber}
 use Rattle.record.specs.Optional.{OptionalConnectionId}
@@ -36,6 +37,11 @@ reserved_length x = value_length x.present x.id x.payload_len
 abbrev pub address_length : PreferredAddress → ℕ
 address_length a = value_length a.present (id_at 15) (41 + a.connection_id.len)
 
+-- four bytes for each version, the chosen one and those available
+abbrev pub versions_length : VersionInformation → ℕ
+versions_length i = value_length i.present (id_at 21) (4 + 4 * i.available_len)
+
+-- those of places 11 to 20
 unfoldable pub others_length : TransportParameters → ℕ
 others_length r =
     reserved_length r.grease_transport_parameter

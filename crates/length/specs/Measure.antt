@@ -31,7 +31,7 @@ pub record Measure : Type 0 where
   pub counted : (r : TransportParameters) (out out' : List ℕ) (n : ℕ) → write r out ≡ (accepted n, out') → length_of r ≡ accepted n
   -- 7 by the one exactly if by the other
   pub ill_formed : (r : TransportParameters) (out : List ℕ) → (length_of r ≡ refused 7) ↔ (write r out ≡ (refused 7, out))
-  -- an order is not tested: any 21 places leave the length as it is
+  -- an order is not tested: any 22 places leave the length as it is
   pub any_order : (r : TransportParameters) (os : List ℕ) (n : ℕ) → length_of r ≡ accepted n → length os ≡ places → length_of (drawn r os) ≡ accepted n
   -- nothing is longer than the longest extension
   pub at_most : (r : TransportParameters) (n : ℕ) → length_of r ≡ accepted n → n ≤ max_extension

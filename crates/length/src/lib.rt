@@ -5,12 +5,12 @@ ghost use Rattle.std.specs.Prelude.{◌≡◌, ◌<◌, ◌^◌};
 ghost use Rattle.refusal.specs.Answer.{outcome_of};
 ghost use Rattle.catalogue.specs.Sum.{sum};
 ghost use Rattle.writer.specs.Writing.{length_of};
-ghost use Rattle.length.specs.Length.{value_length, number_length_at, optional_length, cid_length, reserved_length, address_length, others_length};
+ghost use Rattle.length.specs.Length.{value_length, number_length_at, optional_length, cid_length, reserved_length, address_length, versions_length, others_length};
 
 use catalogue::{
     DEFAULTS, DISABLE_ACTIVE_MIGRATION_ID, GREASE_QUIC_BIT_ID, IDS, INITIAL_SRC_CID_ID,
     MAX_DATAGRAM_FRAME_SIZE_ID, MIN_ACK_DELAY_ID, NUMBERS, ORIGINAL_DST_CID_ID,
-    PREFERRED_ADDRESS_ID, RETRY_SRC_CID_ID, STATELESS_RESET_TOKEN_ID,
+    PREFERRED_ADDRESS_ID, RETRY_SRC_CID_ID, STATELESS_RESET_TOKEN_ID, VERSION_INFORMATION_ID,
 };
 use connection_id::ConnectionId;
 use record::{
@@ -18,6 +18,7 @@ use record::{
 };
 use refusal::Refusal;
 use varint::size_of;
+use version_information::VersionInformation;
 
 // A preferred address without its connection ID.
 const ADDRESS: u16 = 41;
@@ -62,6 +63,14 @@ fn address_length(a: &PreferredAddress) -> u32
     value_length(a.present, PREFERRED_ADDRESS_ID, n)
 }
 
+#[tactic(auto, unfolding(catalogue::specs::Catalogue::id_at, catalogue::specs::Catalogue::ids))]
+fn versions_length(v: &VersionInformation) -> u32
+    ensures { result ≡ versions_length v.now }
+{
+    let n = 4 + 4 * u16::from(v.available_len);
+    value_length(v.present, VERSION_INFORMATION_ID, n)
+}
+
 // Those of places 0 to 10, which hold numbers: a default is not due. By place, since three tables go by it, and no chain that ends in `sum`: tried over
 // places and over an array made by `from_fn`, the proof that the sum fits did not close.
 #[tactic(auto, using(catalogue::proofs::Sums::sum_more, crate::proofs::Lengths::due_or_none), unfolding(catalogue::specs::Sum::sum, crate::specs::Length::number_length_at, catalogue::specs::Catalogue::id_at, catalogue::specs::Catalogue::ids, catalogue::specs::Catalogue::defaults))]
@@ -76,7 +85,7 @@ fn numbers_length(numbers: &[u64; NUMBERS]) -> usize
     n
 }
 
-// Those of places 11 to 20.
+// Those of places 11 to 20. The last place's is added behind them: the proof that eleven fit did not close.
 #[tactic(auto, unfolding(crate::specs::Length::others_length, catalogue::specs::Catalogue::id_at, catalogue::specs::Catalogue::ids))]
 fn others_length(r: &TransportParameters) -> usize
     ensures { (result ≡ others_length r.now) × (result < 2 ^ 36) }
@@ -107,5 +116,6 @@ pub fn length(r: TransportParameters) -> Result<usize, Refusal>
     if !r.is_well_formed() {
         return Err(Refusal::IllFormed);
     }
-    Ok(numbers_length(&r.numbers) + others_length(&r))
+    let versions = versions_length(&r.version_information) as usize;
+    Ok(numbers_length(&r.numbers) + others_length(&r) + versions)
 }

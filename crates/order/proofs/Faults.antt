@@ -2,7 +2,7 @@
 --     located             the first position at which a test holds: it holds there and nowhere before, or nowhere
 --     by_entry, by_end    what is wrong is the first entry at fault or, where none is, what the end shows
 --     front_distinct      no entry before a position is at fault exactly if these entries are distinct places
---     turns               so there are at most 21 of them
+--     turns               so there are at most 22 of them
 --     none_permutation    nothing is wrong exactly with a permutation
 --     first_fault         what the position says (specs/FirstFault.antt)
 --     at_fault, one_more, met_more, at_end    a pass: an entry that is at fault, one that is not, and the end
@@ -27,7 +27,8 @@ use Rattle.refusal.specs.Outcome.{pick, all}
 use Rattle.marks.specs.Mark.{marked, mark}
 use Rattle.marks.proofs.Laws.{marked_same, marked_other}
 use Rattle.catalogue.specs.Catalogue.{places}
-use Rattle.order.specs.Order.{member, distinct, permutation, outside, repeats, faulty, first_below, order_fault}
+use Rattle.words.specs.Words.{member}
+use Rattle.order.specs.Order.{distinct, permutation, outside, repeats, faulty, first_below, order_fault}
 use Rattle.std.specs.Prelude.{Option as Answer, None, Some, is_some as is_some_of}
 use Rattle.order.specs.Answer.{fault_position}
 use Rattle.order.specs.FirstFault.{FirstFault}
@@ -133,7 +134,7 @@ front_distinct os (suc n) h =
     at true e = rw (lt-leb places (get_or os n 0) (ltb-true _ _ e))
     at false e = rw (le-leb places (get_or os n 0) (ltb-false _ _ e))
 
--- so there are at most 21 of them
+-- so there are at most 22 of them
 turns : (os : List ℕ) (n : ℕ) → n ≤ length os → first_below n (faulty os) ≡ none → n ≤ places
 turns os n h e = let d : distinct (take n os) ≡ true = sym (front_distinct os n h) ∙ ap is_none e in omega (arith, at_most (take n os) d, length-take-le n os h)
 
@@ -238,7 +239,7 @@ module _ (os : List ℕ) (k : ℕ) (e : order_fault os ≡ some k) where
       go (entry f) = absurd (omega (arith, f.below))
       go (end r s l) = (s, l)
 
--- 22 entries are enough
+-- 23 entries are enough
 module _ (os : List ℕ) (h : places < length os) where
   soon : (k : ℕ) × (k ≤ places) × (first_below (suc places) (faulty os) ≡ some k)
   soon = go (first_below (suc places) (faulty os)) refl

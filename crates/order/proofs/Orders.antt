@@ -1,8 +1,8 @@
 -- Laws of orders. Assumes nothing.
 --     first          what the first of distinct places is
 --     weighed        a sum over distinct places is a sum over all places
---     at_most        no more than 21 places are distinct
---     full           every place is in an order of 21 distinct ones
+--     at_most        no more than 22 places are distinct
+--     full           every place is in an order of 22 distinct ones
 --     weigh_all      so that a sum over the order is the sum over all places
 --     in_catalogue   catalogue order is a permutation
 use Prim.Native.Nat.{ℕ, zero, suc, ◌+◌, ◌≤◌, ◌<◌}
@@ -18,7 +18,8 @@ use Rattle.refusal.specs.Outcome.{pick, all}
 use Rattle.catalogue.specs.Catalogue.{places}
 use Rattle.catalogue.specs.Sum.{sum}
 use Rattle.catalogue.proofs.Sums.{but, sum_eq, sum_but}
-use Rattle.order.specs.Order.{member, distinct, permutation, catalogue_order}
+use Rattle.words.specs.Words.{member}
+use Rattle.order.specs.Order.{distinct, permutation, catalogue_order}
 
 -- what an order of distinct places has of its first
 pub record First (p : ℕ) (os : List ℕ) : Type 0 where
@@ -67,7 +68,7 @@ unfolding sum
 ones zero f h = omega arith
 ones (suc n) f h = omega (arith, ones n f h, h n)
 
--- no more than 21 places are distinct
+-- no more than 22 places are distinct
 pub at_most : (os : List ℕ) → distinct os ≡ true → length os ≤ places
 at_most os d = omega (arith, weighed (λ q. 1) os d, length_weigh os, ones places (in_order (λ q. 1) os) (λ q. one (member q os)))
   where
@@ -75,7 +76,7 @@ at_most os d = omega (arith, weighed (λ q. 1) os d, length_weigh os, ones place
     one true = omega arith
     one false = omega arith
 
--- every place is in an order of 21 distinct ones
+-- every place is in an order of 22 distinct ones
 pub full : (os : List ℕ) → distinct os ≡ true → length os ≡ places → (q : ℕ) → q < places → member q os ≡ true
 full os d n q h = go (member q os) refl
   where

@@ -16,6 +16,6 @@ pub record FirstFault : Type 0 where
   pub unequal : (os : List ℕ) (k j i : ℕ) → order_fault os ≡ some k → j < k → i < j → get_or os i 0 ≡ get_or os j 0 → ⊥
   -- where no entry stands there, it is the length, and entries are only missing
   pub missing : (os : List ℕ) (k : ℕ) → order_fault os ≡ some k → length os ≤ k → (k ≡ length os) × (k < places)
-  -- of more than 21 entries one of the first 22 is at fault, and what follows these changes nothing
+  -- of more than 22 entries one of the first 23 is at fault, and what follows these changes nothing
   pub within : (os : List ℕ) → places < length os → (k : ℕ) × (k ≤ places) × (order_fault os ≡ some k)
   pub behind : (os more : List ℕ) → places < length os → order_fault (os ++ more) ≡ order_fault os

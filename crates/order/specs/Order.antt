@@ -1,13 +1,10 @@
--- Orders of the places. A permutation of 0 to 20: 21 entries, each a place, and none of them twice. And what is wrong with a list of entries, by the
+-- Orders of the places. A permutation of 0 to 21: 22 entries, each a place, and none of them twice. And what is wrong with a list of entries, by the
 -- position of its first fault.
-use Rattle.std.specs.Prelude.{ℕ, zero, suc, List, [], ◌∷◌, Bool, true, false, ◌&&◌, ◌||◌, not, length, get_or, take, leb, ltb, eqb}
+use Rattle.std.specs.Prelude.{ℕ, zero, suc, List, [], ◌∷◌, Bool, true, ◌&&◌, ◌||◌, not, length, get_or, take, leb, ltb, eqb}
 use Rattle.std.proofs.Math.Option.{Option, none, some, or_else}
 use Rattle.refusal.specs.Outcome.{all, pick}
+use Rattle.words.specs.Words.{member}
 use Rattle.catalogue.specs.Catalogue.{places}
-
-abbrev pub member : ℕ → List ℕ → Bool
-member q [] = false
-member q (p ∷ os) = eqb q p || member q os
 
 abbrev pub distinct : List ℕ → Bool
 distinct [] = true
@@ -17,7 +14,7 @@ unfoldable pub permutation : List ℕ → Bool
 permutation os = all (eqb (length os) places ∷ distinct os ∷ [])
 
 unfoldable pub catalogue_order : List ℕ
-catalogue_order = 0 ∷ 1 ∷ 2 ∷ 3 ∷ 4 ∷ 5 ∷ 6 ∷ 7 ∷ 8 ∷ 9 ∷ 10 ∷ 11 ∷ 12 ∷ 13 ∷ 14 ∷ 15 ∷ 16 ∷ 17 ∷ 18 ∷ 19 ∷ 20 ∷ []
+catalogue_order = 0 ∷ 1 ∷ 2 ∷ 3 ∷ 4 ∷ 5 ∷ 6 ∷ 7 ∷ 8 ∷ 9 ∷ 10 ∷ 11 ∷ 12 ∷ 13 ∷ 14 ∷ 15 ∷ 16 ∷ 17 ∷ 18 ∷ 19 ∷ 20 ∷ 21 ∷ []
 
 -- entry k, counted from 0, is no place
 abbrev pub outside : List ℕ → ℕ → Bool

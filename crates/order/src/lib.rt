@@ -9,8 +9,8 @@ use catalogue::PLACES;
 use marks::{is_marked, with_mark};
 
 // What is wrong with an order: the position, from 0, of the first entry that is no place or repeats an earlier one; the length if entries are only
-// missing; or nothing: it is a permutation of the places. One pass from the front, in which the places met are marked. It ends within the first 22
-// entries: no more than 21 have marks of their own.
+// missing; or nothing: it is a permutation of the places. One pass from the front, in which the places met are marked. It ends within the first 23
+// entries: no more than 22 have marks of their own.
 #[tactic(auto, using(crate::proofs::Faults::too_short, crate::proofs::Faults::long_enough, marks::proofs::Laws::unmarked, crate::proofs::Faults::at_outside, crate::proofs::Faults::at_repeat, crate::proofs::Faults::next_met))]
 pub fn order_fault(order: &[u8]) -> Option<usize>
     ensures { fault_position result ≡ order_fault order.now }

@@ -26,7 +26,7 @@ use Rattle.front.specs.declared.Fault.{Fault}
 use Rattle.front.specs.declared.Fault.TheVariants.{Illegal}
 use Rattle.front.specs.Answer.{refused_with, numbered}
 use Rattle.index.specs.Index.{Found, nothing, index_from, id_len, kept_rules, indexed, value_at, optional_at, Sound}
-use Rattle.index.proofs.Parts.{address_place, id_there, id_none}
+use Rattle.index.proofs.Parts.{versions_no, address_place, id_there, id_none}
 use Rattle.reader.specs.Reading.{parse, judge, read}
 use Rattle.reader.specs.Kept.{record_from, FitsIfAny}
 use Rattle.reader.proofs.Built.{id_len_lem}
@@ -115,6 +115,7 @@ module _ (s : List ℕ) (f : Found) (l : Values) (i : Sound s f) (g : Agrees s f
         ← g.value_at 16 cid_no,
         ← g.value_at 17 cid_no,
         ← g.value_at 18 cid_no,
+        ← g.value_at 21 versions_no,
       )
 
   rules_same : (side : Side) → kept_rules side s f ≡ value_rules side (record_from s f)

@@ -5,7 +5,7 @@ use Rattle.words.specs.Words.{elements}
 use Rattle.marks.specs.Mark.{marked}
 use Rattle.catalogue.specs.Catalogue.{Kind, fits}
 use Rattle.record.specs.declared.TransportParameters.{TransportParameters}
-use Rattle.record.specs.Values.{cid_in, token_in, address_in, no_reserved, no_order}
+use Rattle.record.specs.Values.{cid_in, token_in, address_in, versions_in, no_reserved, no_order}
 use Rattle.index.specs.Index.{Found, value_at, optional_at}
 
 unfoldable pub record_from : List ℕ → Found → TransportParameters
@@ -21,6 +21,7 @@ record_from s f =
       retry_src_cid = cid_in (value_at s f 18);
       stateless_reset_token = token_in (value_at s f 12);
       preferred_address = address_in (value_at s f 15);
+      version_information = versions_in (value_at s f 21);
       grease_transport_parameter = no_reserved;
       write_order = no_order;
     }

@@ -127,6 +127,7 @@ fn record_of(kept: &Kept) -> TransportParameters
         retry_src_cid: cid_in(kept.value(RETRY_SRC_CID)),
         stateless_reset_token: token_in(kept.value(STATELESS_RESET_TOKEN)),
         preferred_address: address_in(kept.value(PREFERRED_ADDRESS)),
+        version_information: kept.versions(),
         grease_transport_parameter: ReservedTransportParameter::default(),
         write_order: WriteOrder::default(),
     }

@@ -7,22 +7,30 @@ use mathlib.Core.Bool.{false}
 use mathlib.Core.Option.{none}
 use Rattle.connection_id.specs.ConnectionId.{cid_of}
 use Rattle.connection_id.proofs.Defaults.{Zeros, zeros_of, cid_default}
+use Rattle.version_information.specs.declared.VersionInformation.{VersionInformation}
+use Rattle.version_information.specs.VersionInformation.{no_versions}
 use Rattle.record.specs.declared.WriteOrder.{WriteOrder}
 use Rattle.record.specs.declared.ReservedTransportParameter.{ReservedTransportParameter}
 use Rattle.record.specs.declared.PreferredAddress.{PreferredAddress}
 use Rattle.record.specs.declared.SocketAddr.{SocketAddr}
 use Rattle.record.specs.Optional.{OptionalConnectionId, OptionalResetToken}
-use Rattle.record.specs.Values.{cid_in, token_in, address_in, family_in, absent_address, no_reserved, no_order}
+use Rattle.record.specs.Values.{cid_in, token_in, address_in, versions_in, family_in, absent_address, no_reserved, no_order}
 
-pub order_absent : (w : WriteOrder) → w.present ≡ false → Zeros w.places 21 → w ≡ no_order
+pub order_absent : (w : WriteOrder) → w.present ≡ false → Zeros w.places 22 → w ≡ no_order
 unfolding no_order
-order_absent w h z = ap₂ (λ p b. record { present = p; places = b }) h (zeros_of w.places 21 z)
+order_absent w h z = ap₂ (λ p b. record { present = p; places = b }) h (zeros_of w.places 22 z)
 
 pub reserved_absent : (x : ReservedTransportParameter) → x.present ≡ false → x.id ≡ 0 → Zeros x.payload 16 → x.payload_len ≡ 0 → x ≡ no_reserved
 unfolding no_reserved
 reserved_absent x h i z n =
     ap₂ (λ p i. record { present = p; id = i; payload = x.payload; payload_len = x.payload_len }) h i
     ∙ ap₂ (λ b n. record { present = false; id = 0; payload = b; payload_len = n }) (zeros_of x.payload 16 z) n
+
+pub versions_absent : (i : VersionInformation) → i.present ≡ false → i.available_len ≡ 0 → i.chosen ≡ 0 → Zeros i.available 16 → i ≡ versions_in none
+unfolding versions_in no_versions
+versions_absent i h n c z =
+    ap₂ (λ p k. record { present = p; available_len = k; chosen = i.chosen; available = i.available }) h n
+    ∙ ap₂ (λ x b. record { present = false; available_len = 0; chosen = x; available = b }) c (zeros_of i.available 16 z)
 
 pub token_absent : (o : OptionalResetToken) → o.present ≡ false → Zeros o.value.bytes 16 → o ≡ token_in none
 unfolding token_in

@@ -4,11 +4,12 @@
 --     -formed     what is read is well formed
 --     -short      what is read is no longer when it is sent again
 use Prim.Native.Nat.{ℕ, suc, ◌^◌, ◌≤◌, ◌<◌}
-use mathlib.Core.Path.{◌≡◌, refl, sym, ◌∙◌}
+use mathlib.Core.Path.{◌≡◌, refl, ap, sym, ◌∙◌}
 use mathlib.Core.List.{List, [], ◌∷◌, append-nil}
 use mathlib.Core.Option.{Option, none, some}
 use mathlib.Core.Bool.{Bool, true, false, ◌||◌}
 use native.Mathlib.Omega.{arith}
+use native.Mathlib.Nat.{le_of_eq}
 use lib.ListN.{length, replicate, length-append}
 use lib.Pow.{pow_mono}
 use lib.Dec.{eqb}
@@ -24,12 +25,15 @@ use Rattle.words.specs.Words.{zeros}
 use Rattle.connection_id.specs.ConnectionId.{cid_of, cid_bytes, formed_cid}
 use Rattle.connection_id.proofs.Laws.{Cid, cid_facts, cid_length_lem, cid_of_lem, cid_none, cid_read_lem, cid_same}
 use Rattle.words.proofs.Laws.{zeros_are}
+use Rattle.version_information.specs.declared.VersionInformation.{VersionInformation}
+use Rattle.version_information.specs.VersionInformation.{no_versions, formed_versions, versions_bytes, versions_with}
+use Rattle.version_information.proofs.Laws.{formed_facts, bytes_back, versions_same, read_formed, versions_long, versions_fit, absent_zero}
 use Rattle.record.specs.Optional.{OptionalNumber}
 use Rattle.std.specs.Prelude.{None, Some}
 use Rattle.record.specs.Optional.{OptionalConnectionId}
 use Rattle.record.specs.Optional.{OptionalResetToken}
-use Rattle.catalogue.specs.Catalogue.{Kind, number, flag, cid, token, fits, fills, illegal, parameter, parameter_if, widest}
-use Rattle.record.specs.Values.{Bytes, is_some, value, number_in, number_out, optional_in, optional_out, flag_out, cid_in, cid_out, token_of, token_in, token_out}
+use Rattle.catalogue.specs.Catalogue.{Kind, number, flag, cid, token, versions, fits, fills, illegal, parameter, parameter_if, widest}
+use Rattle.record.specs.Values.{Bytes, is_some, value, number_in, number_out, optional_in, optional_out, flag_out, cid_in, cid_out, token_of, token_in, token_out, versions_in, versions_out}
 use Rattle.record.specs.Record.{formed_optional, formed_optional_cid, formed_token, formed_optional_token}
 
 -- a value of kind k that is read without fault
@@ -188,6 +192,37 @@ pub cid_short : (o : Option (List ℕ)) → IfSome (Fits cid) o → Shorter (cid
 unfolding cid_in cid_out
 cid_short none f id = omega arith
 cid_short (some v) f id = rw (cid_same v) (omega arith)
+
+-- version information
+pub versions_back : (i : VersionInformation) → formed_versions i ≡ true → versions_in (versions_out i) ≡ i
+unfolding versions_in versions_out
+versions_back i h = go i.present refl
+  where
+    go : (b : Bool) → i.present ≡ b → versions_in (pick b (some (versions_bytes i)) none) ≡ i
+    go true e = bytes_back i h e
+    go false e = absent_zero i h e
+
+pub versions_sent : (F : Type 0) (i : VersionInformation) → formed_versions i ≡ true → IfSome (Sound F versions) (versions_out i)
+unfolding versions_out illegal widest
+versions_sent F i h = go i.present
+  where
+    go : (b : Bool) → IfSome (Sound F versions) (pick b (some (versions_bytes i)) none)
+    go true = record { legal = λ _. refl; fit = versions_fit i h; small = omega (arith, versions_long i h, (formed_facts i h).within) }
+    go false = tt
+
+pub versions_formed : (o : Option (List ℕ)) → IfSome (Fits versions) o → formed_versions (versions_in o) ≡ true
+unfolding versions_in formed_versions no_versions all
+versions_formed none f = refl
+versions_formed (some v) f = read_formed v f.fit f.bytes
+
+-- what was read is sent as it came
+pub versions_kept : (o : Option (List ℕ)) → IfSome (Fits versions) o → versions_out (versions_in o) ≡ o
+unfolding versions_in versions_out versions_with no_versions
+versions_kept none f = refl
+versions_kept (some v) f = ap some (versions_same v f.fit f.bytes)
+
+pub versions_short : (o : Option (List ℕ)) → IfSome (Fits versions) o → Shorter (versions_out (versions_in o)) o
+versions_short o f id = le_of_eq (ap (λ o. length (parameter_if id o)) (versions_kept o f))
 
 -- tokens
 pub token_back : (o : OptionalResetToken) → formed_optional_token o ≡ true → token_in (token_out o) ≡ o

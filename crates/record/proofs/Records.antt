@@ -27,7 +27,7 @@ use Rattle.record.proofs.KindLaws
 use Rattle.record.proofs.KindLaws.{Fits, IfSome, Sound}
 use Rattle.record.proofs.Address.{address_back, address_sent, address_formed, families_formed, address_short}
 
--- a fact of each place: the numbers alike, then place 11, then 12 to 20 by a list
+-- a fact of each place: the numbers alike, then place 11, then 12 to 21 by a list
 abbrev pub Each : (ℕ → Option (List ℕ) → Type 0) → ℕ → List (Option (List ℕ)) → Type 0
 Each P k [] = Unit {0}
 Each P k (o ∷ os) = P k o × Each P (suc k) os
@@ -93,7 +93,7 @@ module _ (r : TransportParameters) (w : well_formed r ≡ true) where
             KindLaws.optional_sent (Families r) _ (all_at _ w 4),
             (
               address_sent _ (all_at _ w 5),
-              (KindLaws.cid_sent (Families r) _ (all_at _ w 6), (KindLaws.cid_sent (Families r) _ (all_at _ w 7), (KindLaws.cid_sent (Families r) _ (all_at _ w 8), (KindLaws.flag_sent (Families r) _, (KindLaws.optional_sent (Families r) _ (all_at _ w 9), tt))))),
+              (KindLaws.cid_sent (Families r) _ (all_at _ w 6), (KindLaws.cid_sent (Families r) _ (all_at _ w 7), (KindLaws.cid_sent (Families r) _ (all_at _ w 8), (KindLaws.flag_sent (Families r) _, (KindLaws.optional_sent (Families r) _ (all_at _ w 9), (KindLaws.versions_sent (Families r) _ (all_at _ w 10), tt)))))),
             ),
           ),
         ),
@@ -120,6 +120,7 @@ module _ (r : TransportParameters) (w : well_formed r ≡ true) where
         KindLaws.cid_back _ (all_at _ w 8),
         KindLaws.flag_back r.grease_quic_bit,
         KindLaws.optional_back _ (all_at _ w 9),
+        KindLaws.versions_back _ (all_at _ w 10),
       )
 
 -- what is read is well formed, and no longer when it is sent again
@@ -148,6 +149,7 @@ module _ (l : Values) (g : Good l) where
         KindLaws.cid_formed (l 17) (g 17),
         KindLaws.cid_formed (l 18) (g 18),
         KindLaws.optional_formed (l 20) (g 20),
+        KindLaws.versions_formed (l 21) (g 21),
       )
 
   pub families : family_rules (record_of l).preferred_address ≡ true
@@ -166,7 +168,7 @@ module _ (l : Values) (g : Good l) where
             KindLaws.optional_short (l 14) (g 14) _,
             (
               address_short (l 15) (g 15) _,
-              (KindLaws.cid_short (l 16) (g 16) _, (KindLaws.cid_short (l 17) (g 17) _, (KindLaws.cid_short (l 18) (g 18) _, (KindLaws.flag_short (l 19) (g 19) _, (KindLaws.optional_short (l 20) (g 20) _, tt))))),
+              (KindLaws.cid_short (l 16) (g 16) _, (KindLaws.cid_short (l 17) (g 17) _, (KindLaws.cid_short (l 18) (g 18) _, (KindLaws.flag_short (l 19) (g 19) _, (KindLaws.optional_short (l 20) (g 20) _, (KindLaws.versions_short (l 21) (g 21) _, tt)))))),
             ),
           ),
         ),

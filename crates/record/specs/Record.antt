@@ -5,6 +5,7 @@ use Rattle.catalogue.specs.Catalogue.{places}
 use Rattle.varint.specs.Number.{bound}
 use Rattle.words.specs.Words.{every, zeros}
 use Rattle.connection_id.specs.ConnectionId.{formed_cid}
+use Rattle.version_information.specs.VersionInformation.{formed_versions}
 use Rattle.record.specs.declared.TransportParameters.{TransportParameters}
 use Rattle.record.specs.Optional.{OptionalNumber}
 use Rattle.std.specs.Prelude.{is_some, None, Some}
@@ -93,6 +94,7 @@ well_formed r =
     ∷ formed_optional_cid r.initial_src_cid
     ∷ formed_optional_cid r.retry_src_cid
     ∷ formed_optional r.min_ack_delay
+    ∷ formed_versions r.version_information
     ∷ formed_order r.write_order
     ∷ []
     )
@@ -125,6 +127,7 @@ having size reserved order r =
       retry_src_cid = r.retry_src_cid;
       stateless_reset_token = r.stateless_reset_token;
       preferred_address = r.preferred_address;
+      version_information = r.version_information;
       grease_transport_parameter = reserved;
       write_order = order;
     }

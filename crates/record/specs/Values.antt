@@ -7,6 +7,8 @@ use Rattle.varint.specs.Number.{read_number, number_bytes}
 use Rattle.varint.specs.declared.Decoded.{Decoded}
 use Rattle.words.specs.Words.{zeros, value_from, bytes_of}
 use Rattle.connection_id.specs.ConnectionId.{cid_of, cid_bytes}
+use Rattle.version_information.specs.declared.VersionInformation.{VersionInformation}
+use Rattle.version_information.specs.VersionInformation.{no_versions, versions_of, versions_bytes}
 use Rattle.record.specs.declared.TransportParameters.{TransportParameters}
 use Rattle.record.specs.Optional.{OptionalNumber}
 use Rattle.std.specs.Prelude.{None, Some}
@@ -140,6 +142,14 @@ address_out a =
     ))
     none
 
+-- VERSION INFORMATION
+unfoldable pub versions_in : Option (List ℕ) → VersionInformation
+versions_in none = no_versions
+versions_in (some v) = versions_of v
+
+unfoldable pub versions_out : VersionInformation → Option (List ℕ)
+versions_out i = pick i.present (some (versions_bytes i)) none
+
 -- THE RECORD. What reading does not give: the reserved parameter and the order
 unfoldable pub no_reserved : ReservedTransportParameter
 no_reserved = record { present = false; id = 0; payload = replicate 16 0; payload_len = 0 }
@@ -166,16 +176,18 @@ record_of l =
       retry_src_cid = cid_in (l 18);
       stateless_reset_token = token_in (l 12);
       preferred_address = address_in (l 15);
+      version_information = versions_in (l 21);
       grease_transport_parameter = no_reserved;
       write_order = no_order;
     }
 
--- places 12 to 20 of a record
+-- places 12 to 21 of a record
 unfoldable pub other_values : TransportParameters → List (Option (List ℕ))
 other_values r =
     token_out r.stateless_reset_token ∷ flag_out r.disable_active_migration ∷ optional_out r.max_datagram_frame_size
     ∷ address_out r.preferred_address ∷ cid_out r.original_dst_cid ∷ cid_out r.initial_src_cid
-    ∷ cid_out r.retry_src_cid ∷ flag_out r.grease_quic_bit ∷ optional_out r.min_ack_delay ∷ []
+    ∷ cid_out r.retry_src_cid ∷ flag_out r.grease_quic_bit ∷ optional_out r.min_ack_delay
+    ∷ versions_out r.version_information ∷ []
 
 -- the values that are sent for a record; the reserved parameter, at place 11, has no value of its own
 unfoldable pub values_of : TransportParameters → Values

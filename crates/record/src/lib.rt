@@ -11,6 +11,7 @@ ghost use Rattle.record.specs.Values.{of_address};
 use catalogue::{NUMBERS, PLACES};
 use connection_id::ConnectionId;
 use varint::VarInt;
+use version_information::VersionInformation;
 use words::{all_zero, zero_from};
 
 // What may be missing is marked by `present`, and all zero where it is absent. An `Option` has no room for what is marked absent and is not zero,
@@ -78,6 +79,7 @@ pub struct TransportParameters {
     pub retry_src_cid: Optional<ConnectionId>,
     pub stateless_reset_token: Optional<ResetToken>,
     pub preferred_address: PreferredAddress,
+    pub version_information: VersionInformation,
     pub grease_transport_parameter: ReservedTransportParameter,
     pub write_order: WriteOrder,
 }
@@ -190,7 +192,7 @@ fn formed_address(a: &PreferredAddress) -> bool
 impl Default for TransportParameters {
     ghost is_default = { λ r. r ≡ default_record };
 
-    #[tactic(auto, using(crate::proofs::Defaults::order_absent, crate::proofs::Defaults::reserved_absent, crate::proofs::Defaults::token_absent, crate::proofs::Defaults::cid_absent, crate::proofs::Defaults::address_absent), unfolding(catalogue::specs::Catalogue::defaults, crate::specs::Values::no_values, crate::specs::Values::number_in, crate::specs::Values::optional_in, crate::specs::Values::record_of))]
+    #[tactic(auto, using(crate::proofs::Defaults::order_absent, crate::proofs::Defaults::reserved_absent, crate::proofs::Defaults::token_absent, crate::proofs::Defaults::cid_absent, crate::proofs::Defaults::address_absent, crate::proofs::Defaults::versions_absent), unfolding(catalogue::specs::Catalogue::defaults, crate::specs::Values::no_values, crate::specs::Values::number_in, crate::specs::Values::optional_in, crate::specs::Values::record_of))]
     fn default() -> TransportParameters {
         TransportParameters {
             numbers: catalogue::DEFAULTS,
@@ -203,6 +205,7 @@ impl Default for TransportParameters {
             retry_src_cid: Optional::default(),
             stateless_reset_token: Optional::default(),
             preferred_address: PreferredAddress::default(),
+            version_information: VersionInformation::default(),
             grease_transport_parameter: ReservedTransportParameter::default(),
             write_order: WriteOrder::default(),
         }
@@ -223,6 +226,7 @@ impl TransportParameters {
             & self.initial_src_cid.is_well_formed()
             & self.retry_src_cid.is_well_formed()
             & formed_number(self.min_ack_delay)
+            & self.version_information.is_well_formed()
             & formed_order(&self.write_order)
     }
 }

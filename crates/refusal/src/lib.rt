@@ -72,7 +72,7 @@ impl fmt::Display for Refusal {
             Refusal::UnexpectedEnd => "the input ends within the number",
             Refusal::VarIntBoundsExceeded => "the number is 2^62 or more",
             Refusal::BufferTooShort => "the output is too short",
-            Refusal::InvalidOrder => "the order is not a permutation of 0 to 20",
+            Refusal::InvalidOrder => "the order is not a permutation of 0 to 21",
             Refusal::IllFormed => "the record or a connection ID is not well formed",
             Refusal::LimitReduced => "a remembered limit is reduced",
             Refusal::InvalidDraw => "a drawn value is out of range",

@@ -14,11 +14,11 @@ use borrow.Author.Tests.{lt-ltb, ltb-true, ltb-false, eq-eqb, eqb-true, eqb-fals
 use Rattle.refusal.specs.Outcome.{pick}
 use Rattle.varint.specs.Number.{read_number}
 use Rattle.connection_id.proofs.Laws.{cid_same}
-use Rattle.catalogue.specs.Catalogue.{number, flag, cid, token, address, reserved, places, id_at, kinds, other_kinds, kind_at, fits, defaults, parameter_if}
+use Rattle.catalogue.specs.Catalogue.{number, flag, cid, token, address, versions, reserved, places, id_at, kinds, other_kinds, kind_at, fits, defaults, parameter_if}
 use Rattle.catalogue.proofs.Sums.{sum_eq}
 use Rattle.catalogue.proofs.Places.{number_kind}
-use Rattle.record.specs.Values.{Values, is_some, value, number_in, number_out, optional_in, optional_out, flag_out, cid_in, cid_out, token_in, token_out, address_in, address_out, numbers_in, no_reserved, record_of, other_values, values_of}
-use Rattle.record.proofs.KindLaws.{Fits, IfSome}
+use Rattle.record.specs.Values.{Values, is_some, value, number_in, number_out, optional_in, optional_out, flag_out, cid_in, cid_out, token_in, token_out, address_in, address_out, versions_in, versions_out, numbers_in, no_reserved, record_of, other_values, values_of}
+use Rattle.record.proofs.KindLaws.{Fits, IfSome, versions_kept}
 use Rattle.record.proofs.Address.{address_kept}
 use Rattle.record.proofs.Records.{Each, Good, number_in_lem}
 use Rattle.order.specs.Order.{catalogue_order}
@@ -78,6 +78,11 @@ module _ (p : ℕ) (h : ltb p 11 ≡ false) where
   address_again none f k = address_kept none f ∙ (unfold again in refl)
   address_again (some v) f k = rw (again_some v, k) (address_kept (some v) f)
 
+  versions_again : (o : Option (List ℕ)) → IfSome (Fits versions) o → kind_at p ≡ versions → versions_out (versions_in o) ≡ again p o
+  unfolding shortest
+  versions_again none f k = versions_kept none f ∙ (unfold again in refl)
+  versions_again (some v) f k = rw (again_some v, k) (versions_kept (some v) f)
+
 reserved_again : (p : ℕ) (o : Option (List ℕ)) → IfSome (Fits reserved) o → none ≡ again p o
 unfolding again fits
 reserved_again p none f = refl
@@ -108,7 +113,7 @@ module _ (l : Values) (g : Good l) where
                 cid_again 18 refl (l 18) refl,
                 (
                   flag_again 19 refl (l 19) (g 19) refl,
-                  (optional_again 20 refl (l 20) refl, tt),
+                  (optional_again 20 refl (l 20) refl, (versions_again 21 refl (l 21) (g 21) refl, tt)),
                 ),
               ),
             ),
@@ -118,9 +123,9 @@ module _ (l : Values) (g : Good l) where
     ),
   )
 
-  nine : length (other_values (record_of l)) ≡ 9
+  ten : length (other_values (record_of l)) ≡ 10
   unfolding other_values
-  nine = refl
+  ten = refl
 
   numbers_are : (record_of l).numbers ≡ numbers_in defaults 0 l
   unfolding record_of
@@ -141,7 +146,7 @@ module _ (l : Values) (g : Good l) where
       go false false e f =
           let k : p ≡ 12 + (p - 12) = omega (arith, ltb-false p 11 e, eqb-false p 11 f) in
           subst (λ q. get_or (other_values (record_of l)) (p - 12) none ≡ again q (l q)) (sym k)
-          (each_at (λ q o. o ≡ again q (l q)) 12 (other_values (record_of l)) others_again (p - 12) (omega (arith, nine)))
+          (each_at (λ q o. o ≡ again q (l q)) 12 (other_values (record_of l)) others_again (p - 12) (omega (arith, ten)))
 
   no_reserved_bytes : reserved_bytes (record_of l).grease_transport_parameter ≡ []
   unfolding reserved_bytes record_of no_reserved

@@ -15,7 +15,7 @@ use Rattle.varint.specs.Number.{read_number, number_bytes}
 use Rattle.varint.specs.declared.Decoded.{Decoded}
 use Rattle.varint.proofs.Laws.{read_bounds, read_count}
 use Rattle.varint.proofs.Bytes.{size_1, width_range}
-use Rattle.catalogue.specs.Catalogue.{Kind, number, flag, cid, token, address, reserved, places, place_of, kind_at, fits, fills, parameter}
+use Rattle.catalogue.specs.Catalogue.{Kind, number, flag, cid, token, address, versions, reserved, places, place_of, kind_at, fits, fills, parameter}
 use Rattle.record.specs.Values.{Bytes, value}
 use Rattle.record.proofs.Bytes.{bytes_drop}
 use Rattle.record.proofs.KindLaws.{Fits}
@@ -53,6 +53,7 @@ value_account flag v f = record { head = refl; value = omega arith }
 value_account cid v f = record { head = refl; value = omega arith }
 value_account token v f = record { head = refl; value = omega arith }
 value_account address v f = record { head = refl; value = omega arith }
+value_account versions v f = record { head = refl; value = omega arith }
 value_account reserved v f = record { head = refl; value = omega arith }
 
 -- a parameter that is sent again, in its shortest form, and what that saves

@@ -1,6 +1,9 @@
 -- The value rules, records legal for the side that reads them, and checking one.
 use Rattle.std.specs.Prelude.{ℕ, ◌*◌, ◌^◌, List, [], ◌∷◌, Bool, true, false, ◌&&◌, ◌||◌, not, get_or, ltb, leb, eqb}
 use Rattle.refusal.specs.Outcome.{Outcome, accepted, refused, pick, all}
+use Rattle.words.specs.Words.{member}
+use Rattle.version_information.specs.declared.VersionInformation.{VersionInformation}
+use Rattle.version_information.specs.VersionInformation.{available_in}
 use Rattle.record.specs.declared.TransportParameters.{TransportParameters}
 use Rattle.record.specs.Record.{least, well_formed, family_rules}
 use Rattle.rules.specs.declared.Side.{Side}
@@ -32,12 +35,19 @@ unfoldable pub presence_rules : Bool → Bool → Bool → Bool → Bool → ℕ
 presence_rules server original address retry token id_len =
     all (not (server && (original || (address || (retry || token)))) ∷ not (address && eqb id_len 0) ∷ [])
 
+-- of version information (RFC 9368 section 3): no version is 0; and for a server the chosen one is available
+unfoldable pub version_rules : Bool → VersionInformation → Bool
+version_rules server i =
+    not i.present
+    || all (not (member 0 (i.chosen ∷ available_in i)) ∷ (not server || member i.chosen (available_in i)) ∷ [])
+
 unfoldable pub value_rules : Side → TransportParameters → Bool
 value_rules s r =
     all (
     number_rules r.numbers (least r.min_ack_delay)
     ∷ presence_rules (is_server s) r.original_dst_cid.present r.preferred_address.present r.retry_src_cid.present
     r.stateless_reset_token.present r.preferred_address.connection_id.len
+    ∷ version_rules (is_server s) r.version_information
     ∷ []
     )
 

@@ -1,10 +1,10 @@
-// The value rules (RFC 9000 sections 4.6 and 18.2, draft-ietf-quic-ack-frequency-08 section 3), and checking a record for the side that reads it.
+// The value rules (RFC 9000 sections 4.6 and 18.2, RFC 9368 section 3, draft-ietf-quic-ack-frequency-08 section 3), and checking a record for the side that reads it.
 #![tactic(auto)]
 
 ghost use Rattle.std.specs.Prelude.{◌≡◌, ◌*◌, leb};
 ghost use Rattle.refusal.specs.Answer.{outcome_of};
 ghost use Rattle.record.specs.Record.{family_rules};
-ghost use Rattle.rules.specs.Rules.{is_server, number_rules, presence_rules, value_rules, check_record};
+ghost use Rattle.rules.specs.Rules.{is_server, number_rules, presence_rules, version_rules, value_rules, check_record};
 
 use catalogue::{
     ACK_DELAY_EXPONENT, ACTIVE_CONNECTION_ID_LIMIT, INITIAL_MAX_STREAMS_BIDI,
@@ -12,6 +12,7 @@ use catalogue::{
 };
 use record::{PreferredAddress, TransportParameters};
 use refusal::Refusal;
+use version_information::VersionInformation;
 
 // The side that reads an extension, or for which it is written: the other side is the one that speaks.
 #[derive(Clone, Copy, Debug, PartialEq, Eq)]
@@ -73,6 +74,17 @@ pub fn presence_allowed(side: Side, p: Presence) -> bool
     !((side == Side::Server) & server_only) & !(p.address & (p.id_len == 0))
 }
 
+// The value rules of version information.
+#[tactic(auto, unfolding(refusal::specs::Outcome::all, crate::specs::Rules::version_rules))]
+pub fn versions_allowed(side: Side, v: &VersionInformation) -> bool
+    ensures { result ≡ version_rules (is_server side) v.now }
+{
+    if !v.present {
+        return true;
+    }
+    (v.chosen != 0) & !v.lists(0) & ((side == Side::Client) | v.lists(v.chosen))
+}
+
 // A preferred address has a family, and none present is unspecified.
 #[tactic(auto, unfolding(refusal::specs::Outcome::all, record::specs::Record::family_rules))]
 fn families_allowed(a: &PreferredAddress) -> bool
@@ -99,6 +111,7 @@ fn is_allowed(r: &TransportParameters, side: Side) -> bool
     };
     numbers_allowed(&r.numbers, Microseconds(r.min_ack_delay.unwrap_or(0)))
         & presence_allowed(side, presence)
+        & versions_allowed(side, &r.version_information)
 }
 
 // Checks a record for the side that reads it.

@@ -2,6 +2,7 @@
 #![tactic(auto)]
 
 pub mod rows;
+pub mod versions;
 
 ghost use Rattle.text.specs.declared.out.Stream.{Stream};
 ghost use Rattle.text.specs.Printing.{Becomes};
@@ -12,6 +13,7 @@ use std::fmt;
 use std::fmt::Display;
 use text::byte;
 use text::out::{HexBytes, Out};
+use versions::Versions;
 use words::bytes_at;
 
 fn is_set(image: &[u8], at: usize) -> bool {
@@ -105,6 +107,7 @@ fn say_present(out: &mut Out, i: usize, row: Row, image: &[u8])
             let port = port_at(image, at + 16);
             out.say(format_args!("{ip} port {port}"));
         }
+        Kind::Versions => out.say(Versions(part(image, at, 69))),
         Kind::Reserved | Kind::Order => {}
     }
 }

@@ -45,6 +45,8 @@ pub enum Kind {
     ConnectionId,
     // an identifier, and a payload behind its length
     Reserved,
+    // the chosen version and sixteen places of available ones, behind how many of these there are
+    Versions,
     // the parts of an address
     V4,
     V6,
@@ -55,6 +57,9 @@ pub enum Kind {
 
 // Where the image of a record says that there is a preferred address.
 pub const ADDRESS_FLAG: usize = 191;
+
+// Where the order stands in it.
+pub const ORDER_AT: usize = 282;
 
 // A row: what it holds, and where its value starts in the image of a record.
 #[derive(Clone, Copy)]
@@ -80,7 +85,7 @@ impl Row {
 }
 
 // The places of the catalogue come first, each at its place.
-pub const ROWS: [Row; 26] = [
+pub const ROWS: [Row; 27] = [
     Row(Kind::Number(Unit::Milliseconds), 0),
     Row(Kind::Number(Unit::Bytes), 8),
     Row(Kind::Number(Unit::Bytes), 16),
@@ -102,11 +107,12 @@ pub const ROWS: [Row; 26] = [
     Row(Kind::ConnectionId, 153),
     Row(Kind::Flag, 90),
     Row(Kind::OptionalNumber(Unit::Microseconds), 100),
+    Row(Kind::Versions, 305),
     Row(Kind::V4, 193),
     Row(Kind::V6, 200),
     Row(Kind::AddressId, 218),
     Row(Kind::AddressToken, 239),
-    Row(Kind::Order, 282),
+    Row(Kind::Order, ORDER_AT as u16),
 ];
 
 // The names of those behind the places. A row holds no name of its own: a constant cannot take `NAMES[0]`, and the catalogue's names would stand here
@@ -134,7 +140,7 @@ pub fn name_of(i: usize) -> &'static str
 
 // The row of this name, and its number.
 pub fn row_named(name: &[u8]) -> Option<(usize, Row)>
-    ensures row { IfSome result (λ found. (found.0 < 26) × (found.1 ≡ slice_index_or ROWS found.0 found.1)) }
+    ensures row { IfSome result (λ found. (found.0 < 27) × (found.1 ≡ slice_index_or ROWS found.0 found.1)) }
     ensures named { IfSome result (λ found. name.now ≡ slice_index_or (map (λ name. name.now) (NAMES ++ PART_NAMES)) found.0 []) }
 {
     let i = (0..ROWS.len()).find(|i| name_of(*i).as_bytes() == name)?;

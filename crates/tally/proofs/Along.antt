@@ -14,7 +14,7 @@ use Rattle.refusal.specs.Outcome.{Outcome, accepted, refused, pick}
 use Rattle.varint.specs.Number.{read_number}
 use Rattle.varint.specs.declared.Decoded.{Decoded}
 use Rattle.varint.proofs.Laws.{read_within}
-use Rattle.catalogue.specs.Catalogue.{Kind, number, flag, cid, token, address, reserved, places, place_of, kind_at, defaults}
+use Rattle.catalogue.specs.Catalogue.{Kind, number, flag, cid, token, address, versions, reserved, places, place_of, kind_at, defaults}
 use Rattle.catalogue.proofs.Places.{number_kind}
 use Rattle.record.specs.Values.{value}
 use Rattle.front.specs.declared.Parameter.{Parameter}
@@ -61,6 +61,7 @@ saved_held flag a v x e = ap (λ (h : Held). h.saved) e
 saved_held cid a v x e = ap (λ (h : Held). h.saved) e
 saved_held token a v x e = ap (λ (h : Held). h.saved) e
 saved_held address a v x e = ap (λ (h : Held). h.saved) e
+saved_held versions a v x e = ap (λ (h : Held). h.saved) e
 saved_held reserved a v x e = ap (λ (h : Held). h.saved) e
 
 -- is the default as what the definition looks at is: no other kind has one
@@ -86,6 +87,7 @@ saved_within flag v = omega arith
 saved_within cid v = omega arith
 saved_within token v = omega arith
 saved_within address v = omega arith
+saved_within versions v = omega arith
 saved_within reserved v = omega arith
 
 module _ (s : List ℕ) (at : ℕ) (p : Parameter) (h : at < length s) (q : accepted p ≡ located s at) (t : Sums) (a : Along s at t) where

@@ -3,7 +3,7 @@
 use Rattle.std.specs.Prelude.{ℕ, ◌+◌, List, [], ◌∷◌, Bool, ◌&&◌, length, get_or, ltb, eqb}
 use Rattle.refusal.specs.Outcome.{Result, accepted, refused, pick}
 use Rattle.varint.specs.Number.{read_number, number_bytes}
-use Rattle.catalogue.specs.Catalogue.{Kind, number, flag, cid, token, address, reserved, places, place_of, kind_at, defaults, parameter}
+use Rattle.catalogue.specs.Catalogue.{Kind, number, flag, cid, token, address, versions, reserved, places, place_of, kind_at, defaults, parameter}
 use Rattle.record.specs.Values.{value}
 use Rattle.front.specs.declared.Fault.{Fault}
 use Rattle.front.specs.Parameter.{saved, saved_head, read_parameter}
@@ -29,6 +29,7 @@ shortest flag v = v
 shortest cid v = v
 shortest token v = v
 shortest address v = v
+shortest versions v = v
 shortest reserved v = v
 
 unfoldable pub saved_value : Kind → List ℕ → ℕ
@@ -37,6 +38,7 @@ saved_value flag v = 0
 saved_value cid v = 0
 saved_value token v = 0
 saved_value address v = 0
+saved_value versions v = 0
 saved_value reserved v = 0
 
 -- what it adds to the counts: its identifier, its value, and its own bytes

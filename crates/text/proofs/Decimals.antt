@@ -3,6 +3,7 @@
 --     range_is_not      what is in no range
 --     decimal_digit, lower_digit, upper_digit, gap, other    what a character stands for
 --     kept_more         a number as it is kept, with one more digit
+--     not_every         a character that fails
 --     more, rest, every_more, decimal_more    one more character
 --     strange, empty, whole       what a text is: by a character that is no digit, without characters, and with none but digits
 --     byte_before, less      one more byte of a number, before those that are stored; the number without it
@@ -89,7 +90,7 @@ decimal_append : (a b : List ℕ) (v : ℕ) → decimal_from v (a ++ b) ≡ deci
 decimal_append [] b v = refl
 decimal_append (x ∷ a) b v = decimal_append a b (10 * v + (x - 48))
 
-not_every : (f : ℕ → Bool) (l : List ℕ) (p : ℕ) → p < length l → f (get_or l p 0) ≡ false → every f l ≡ false
+pub not_every : (f : ℕ → Bool) (l : List ℕ) (p : ℕ) → p < length l → f (get_or l p 0) ≡ false → every f l ≡ false
 not_every f [] p h e = absurd (omega arith)
 not_every f (x ∷ l) zero h e = rw e
 not_every f (x ∷ l) (suc p) h e = rw (not_every f l p (omega arith) e) (and-false (f x))

@@ -1,4 +1,5 @@
 pub mod Decimals
+pub mod HexNumbers
 pub mod Hexes
 pub mod Lists
 pub mod Printing

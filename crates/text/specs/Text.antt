@@ -131,6 +131,19 @@ unfoldable pub hex_stored : List ℕ → ℕ → ℕ → List ℕ → Result ℕ
 hex_stored text at room out =
     (hex_text text (fitting at room out), sets out at (take (fitting at room out) (packed (digits_in (known text)))))
 
+-- the number that hexadecimal digits make after the number v
+abbrev pub hex_from : ℕ → List ℕ → ℕ
+hex_from v [] = v
+hex_from v (b ∷ bs) = hex_from (16 * v + digit_of b) bs
+
+abbrev pub is_digit : ℕ → Bool
+is_digit b = ltb (digit_of b) 16
+
+-- the number of a text, if it is one to eight digits and nothing else
+unfoldable pub hex_number : List ℕ → Option ℕ
+hex_number text =
+    pick (ltb 0 (length text) && (leb (length text) 8 && every is_digit text)) (Some (hex_from 0 text)) None
+
 -- whether text is 16 bytes
 abbrev pub are_sixteen : Result ℕ HexError → Bool
 are_sixteen (Ok n) = eqb n 16

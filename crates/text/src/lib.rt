@@ -6,7 +6,7 @@ ghost use Rattle.std.specs.Iterator.{YieldsFirstRef, item_count};
 ghost use Rattle.std.proofs.lemmas.List.Edits.{sets};
 ghost use Rattle.refusal.specs.Outcome.{pick};
 ghost use Rattle.words.specs.Words.{bytes_of};
-ghost use Rattle.text.specs.Text.{stored, is_gap, past_word, word_at, words_in, IsCharacter, decimal, number_stored, list_stored, digit_stored, hex_stored, sixteen_stored};
+ghost use Rattle.text.specs.Text.{stored, is_gap, past_word, word_at, words_in, IsCharacter, decimal, number_stored, list_stored, digit_stored, hex_stored, hex_number, sixteen_stored};
 
 pub mod out;
 
@@ -209,6 +209,24 @@ pub fn parse_decimal(text: &[u8]) -> Option<u64>
     Some(value)
 }
 
+// The number that one to eight hexadecimal digits make; none if it is none.
+#[tactic(auto, using(crate::proofs::HexNumbers::start))]
+fn parse_hex_number(digits: &[u8]) -> Option<u32>
+    ensures { result ≡ hex_number digits.now }
+{
+    if digits.is_empty() || 8 < digits.len() {
+        return None;
+    }
+    let mut value: u32 = 0;
+    for b in digits {
+        match character_of(*b) {
+            Character::Digit(d) => value = 16 * value + u32::from(d),
+            Character::Gap | Character::Other => return None,
+        }
+    }
+    Some(value)
+}
+
 // Stores a number in `n` bytes, high byte first. Byte by byte: `to_be_bytes` gives eight, and `n` may be more, which are zeros then.
 fn put_bytes(out: &mut [u8], at: usize, n: usize, x: u64)
     ensures { out.new ≡ sets out.old at (bytes_of n x) }
@@ -231,6 +249,15 @@ pub fn put_number(digits: &[u8], most: u64, out: &mut [u8], at: usize, n: usize)
         }
         _ => None,
     }
+}
+
+// The number of one to eight hexadecimal digits, in four bytes; none if it is none.
+pub fn put_hex_number(digits: &[u8], out: &mut [u8], at: usize) -> Option<()>
+    ensures { (is_some result, out.new) ≡ number_stored (2 ^ 32 - 1) at 4 out.old (hex_number digits.now) }
+{
+    let x = parse_hex_number(digits)?;
+    put_bytes(out, at, 4, u64::from(x));
+    Some(())
 }
 
 // The words `from` to `to`, decimal numbers below 256, a byte for each; none if they are not there, or a word behind them is.

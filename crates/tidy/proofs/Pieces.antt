@@ -15,14 +15,15 @@ use Rattle.words.specs.Words.{elements}
 use Rattle.marks.specs.Mark.{marked}
 use Rattle.connection_id.specs.ConnectionId.{cid_bytes}
 use Rattle.connection_id.proofs.Laws.{cid_same}
-use Rattle.catalogue.specs.Catalogue.{Kind, number, flag, cid, token, address, reserved, id_at, kinds, other_kinds, kind_at, fits}
+use Rattle.catalogue.specs.Catalogue.{Kind, number, flag, cid, token, address, versions, reserved, id_at, kinds, other_kinds, kind_at, fits}
 use Rattle.order.specs.Order.{catalogue_order}
 use Rattle.order.proofs.Orders.{in_catalogue}
 use Rattle.std.specs.Prelude.{None, Some}
-use Rattle.record.specs.Values.{Bytes, cid_in, token_in, address_in, address_out, no_reserved}
+use Rattle.record.specs.Values.{Bytes, cid_in, token_in, address_in, address_out, versions_in, versions_out, no_reserved}
 use Rattle.record.specs.Record.{is_present, least, well_formed}
-use Rattle.record.proofs.KindLaws.{Fits, IfSome}
+use Rattle.record.proofs.KindLaws.{Fits, IfSome, versions_kept}
 use Rattle.record.proofs.Address.{address_kept}
+use Rattle.version_information.specs.VersionInformation.{no_versions, versions_with, versions_bytes}
 use Rattle.rules.specs.declared.Side.{Side}
 use Rattle.rules.specs.Rules.{legal}
 use Rattle.front.specs.declared.Fault.{Fault}
@@ -30,6 +31,7 @@ use Rattle.front.specs.Answer.{refused_with}
 use Rattle.value.proofs.Checks.{number_at_lem, not_number_at}
 use Rattle.index.specs.Index.{Found, indexed, value_at}
 use Rattle.reader.specs.Kept.{record_from}
+use Rattle.index.proofs.Parts.{versions_no}
 use Rattle.reader.proofs.Indexed.{no_number, flag_no, address_no, kept_good, read_recorded, read_faulty}
 use Rattle.reader.proofs.Laws.{accepted_legal}
 use Rattle.wire.specs.Wire.{put, due_value, due_number, number_at}
@@ -38,7 +40,7 @@ use Rattle.wire.specs.Stored.{joined, each}
 use Rattle.wire.proofs.Stored.{joined_append}
 use Rattle.writer.specs.Writing.{extension}
 use Rattle.address.specs.Address.{address_bytes}
-use Rattle.writer.proofs.Places.{from11, from16, in_catalogue_order, all_due}
+use Rattle.writer.proofs.Places.{from11, from16, from21, in_catalogue_order, all_due}
 use Rattle.writer.proofs.Extension.{longest}
 use Rattle.tidy.specs.Tidying.{tidy}
 use Rattle.tidy.specs.Pieces.{span_at, piece_of, piece_for, others, pieces}
@@ -60,6 +62,12 @@ address_piece : (b : Bool) (id : ℕ) (v : List ℕ) → IfSome (Fits address) (
 unfolding address_in due_value
 address_piece true id v f = let e : some (address_bytes (address_in (some v))) ≡ some v = (unfold address_out in address_kept (some v) f) in let q : address_bytes (address_in (some v)) ≡ v = cc in rw q
 address_piece false id v f = refl
+
+versions_piece : (b : Bool) (id : ℕ) (v : List ℕ) → IfSome (Fits versions) (pick b (some v) none)
+    → due_value (versions_in (pick b (some v) none)).present id (versions_bytes (versions_in (pick b (some v) none))) ≡ due_value b id v
+unfolding versions_in versions_with no_versions due_value
+versions_piece true id v f = let e : some (versions_bytes (versions_in (some v))) ≡ some v = (unfold versions_out in versions_kept (some v) f) in let q : versions_bytes (versions_in (some v)) ≡ v = cc in rw q
+versions_piece false id v f = refl
 
 flag_piece : (b : Bool) (id : ℕ) (v : List ℕ) → IfSome (Fits flag) (pick b (some v) none) → due_value b id [] ≡ due_value b id v
 unfolding due_value fits
@@ -84,6 +92,7 @@ module _ (id : ℕ) (s : List ℕ) (f : Found) (p : ℕ) where
       go cid = unfold due_value in put_nil out
       go token = unfold due_value in put_nil out
       go address = unfold due_value in put_nil out
+      go versions = unfold due_value in put_nil out
       go reserved = unfold due_value in put_nil out
 
   pub number_due : marked f.0 p ≡ true → marked 0x1047ff p ≡ true → due_number true id (get_or f.1 p 0) ≡ piece_for id s f p
@@ -110,6 +119,7 @@ module _ (id : ℕ) (s : List ℕ) (f : Found) (p : ℕ) where
       go true cid n q = let w : v ≡ take (get_or f.2 p 0) (drop (get_or f.1 p 0) s) = cc in rw w
       go true token n q = let w : v ≡ take (get_or f.2 p 0) (drop (get_or f.1 p 0) s) = cc in rw w
       go true address n q = let w : v ≡ take (get_or f.2 p 0) (drop (get_or f.1 p 0) s) = cc in rw w
+      go true versions n q = let w : v ≡ take (get_or f.2 p 0) (drop (get_or f.1 p 0) s) = cc in rw w
       go true reserved n q = let w : v ≡ take (get_or f.2 p 0) (drop (get_or f.1 p 0) s) = cc in rw w
 
 module _ (side : Side) (s : List ℕ) (f : Found) (hb : Bytes s) (e : indexed side s ≡ accepted f) where
@@ -125,11 +135,15 @@ module _ (side : Side) (s : List ℕ) (f : Found) (hb : Bytes s) (e : indexed si
   unfolding kind_at kinds other_kinds value_at span_at
   address_good = kept_good side s f hb e 15 address_no
 
+  versions_good : IfSome (Fits versions) (pick (marked f.0 21) (some (span_at s f 21)) none)
+  unfolding kind_at kinds other_kinds value_at span_at
+  versions_good = kept_good side s f hb e 21 versions_no
+
   flag_good : (p : ℕ) → kind_at p ≡ flag → IfSome (Fits flag) (pick (marked f.0 p) (some (span_at s f p)) none)
   unfolding value_at span_at
   flag_good p k = rw k at (kept_good side s f hb e p (no_number p flag k flag_no))
 
-  others_piece : joined (from11 (record_from s f) ++ from16 (record_from s f)) ≡ joined (others s f)
+  others_piece : joined (from11 (record_from s f) ++ (from16 (record_from s f) ++ from21 (record_from s f))) ≡ joined (others s f)
   unfolding others each piece_for piece_of kind_at kinds other_kinds record_from value_at no_reserved joined span_at
   others_piece =
       rw (
@@ -142,6 +156,7 @@ module _ (side : Side) (s : List ℕ) (f : Found) (hb : Bytes s) (e : indexed si
         cid_piece (marked f.0 18) (id_at 18) (span_at s f 18),
         flag_piece (marked f.0 19) (id_at 19) (span_at s f 19) (flag_good 19 refl),
         number_piece (marked f.0 20) (id_at 20) (get_or f.1 20 0),
+        versions_piece (marked f.0 21) (id_at 21) (span_at s f 21) versions_good,
       )
       (unfold due_value in refl)
 
@@ -150,11 +165,11 @@ module _ (side : Side) (s : List ℕ) (f : Found) (hb : Bytes s) (e : indexed si
   whole =
       joined_append (each (number_at f.1) 11) _
       ∙ ap₂ (λ (a b : List ℕ). a ++ b) (ap joined (sym numbers_piece)) (sym others_piece)
-      ∙ sym (joined_append (each (number_at (record_from s f).numbers) 11) (from11 (record_from s f) ++ from16 (record_from s f)))
+      ∙ sym (joined_append (each (number_at (record_from s f).numbers) 11) (from11 (record_from s f) ++ (from16 (record_from s f) ++ from21 (record_from s f))))
       ∙ ap joined (all_due (record_from s f) formed)
       ∙ in_catalogue_order (record_from s f)
 
-  pub few : length (joined (pieces s f)) ≤ 314
+  pub few : length (joined (pieces s f)) ≤ 385
   few = rw whole (longest (record_from s f) catalogue_order formed in_catalogue)
 
   pub tidied_pieces : (out : List ℕ) → store (joined (pieces s f)) out ≡ tidy side s out

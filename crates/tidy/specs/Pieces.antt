@@ -1,7 +1,7 @@
 -- What tidying writes, as it is found: from the numbers, and from where the values stand in the extension.
 use Rattle.std.specs.Prelude.{ℕ, ◌+◌, ◌-◌, List, ◌++◌, Bool, get_or, take, drop}
 use Rattle.marks.specs.Mark.{marked}
-use Rattle.catalogue.specs.Catalogue.{Kind, number, flag, cid, token, address, reserved, places, id_at, kind_at}
+use Rattle.catalogue.specs.Catalogue.{Kind, number, flag, cid, token, address, versions, reserved, places, id_at, kind_at}
 use Rattle.index.specs.Index.{Found}
 use Rattle.wire.specs.Wire.{due_value, due_number, number_at}
 use Rattle.wire.specs.Stored.{each}
@@ -17,6 +17,7 @@ piece_of flag due id x v = due_value due id v
 piece_of cid due id x v = due_value due id v
 piece_of token due id x v = due_value due id v
 piece_of address due id x v = due_value due id v
+piece_of versions due id x v = due_value due id v
 piece_of reserved due id x v = due_value due id v
 
 unfoldable pub piece_for : ℕ → List ℕ → Found → ℕ → List ℕ

@@ -18,7 +18,7 @@ use Rattle.varint.specs.declared.Decoded.{Decoded}
 use Rattle.varint.proofs.Laws.{read_take}
 use Rattle.marks.specs.Mark.{marked}
 use Rattle.words.specs.Words.{zeros}
-use Rattle.catalogue.specs.Catalogue.{Kind, number, flag, cid, token, address, reserved, other_kinds, kinds, kind_at, fills, fits, illegal, id_length}
+use Rattle.catalogue.specs.Catalogue.{Kind, number, flag, cid, token, address, versions, reserved, other_kinds, kinds, kind_at, fills, fits, illegal, id_length}
 use Rattle.std.proofs.lemmas.Bool.{agree_below_at}
 use Rattle.front.specs.declared.Fault.{Fault}
 use Rattle.front.specs.declared.Fault.TheVariants.{SecondCopy, Misfit, Illegal}
@@ -95,14 +95,16 @@ code flag = 1
 code cid = 2
 code token = 3
 code address = 4
-code reserved = 5
+code versions = 5
+code reserved = 6
 
-coded : (k : Kind) → get_or (number ∷ flag ∷ cid ∷ token ∷ address ∷ reserved ∷ []) (code k) reserved ≡ k
+coded : (k : Kind) → get_or (number ∷ flag ∷ cid ∷ token ∷ address ∷ versions ∷ reserved ∷ []) (code k) reserved ≡ k
 coded number = refl
 coded flag = refl
 coded cid = refl
 coded token = refl
 coded address = refl
+coded versions = refl
 coded reserved = refl
 
 -- whether a kind is another
@@ -110,9 +112,9 @@ abbrev is : Kind → Kind → Bool
 is j k = eqb (code j) (code k)
 
 is_it : (j k : Kind) → is j k ≡ true → k ≡ j
-is_it j k e = sym (coded k) ∙ ap (λ n. get_or (number ∷ flag ∷ cid ∷ token ∷ address ∷ reserved ∷ []) n reserved) (sym (eqb-true (code j) (code k) e)) ∙ coded j
+is_it j k e = sym (coded k) ∙ ap (λ n. get_or (number ∷ flag ∷ cid ∷ token ∷ address ∷ versions ∷ reserved ∷ []) n reserved) (sym (eqb-true (code j) (code k) e)) ∙ coded j
 
-above : (m p : ℕ) → m < 2 ^ 21 → 21 ≤ p → marked m p ≡ false
+above : (m p : ℕ) → m < 2 ^ 22 → 22 ≤ p → marked m p ≡ false
 unfolding marked
 above m p h k = rw (div-eq_of_lt (lt_of_lt_of_le h (pow_mono k)))
 
@@ -135,18 +137,19 @@ tests p k =
     ∷ same (eqb p 12) (is token k)
     ∷ same (eqb p 15) (is address k)
     ∷ same (marked 0x1f77ff p) (is_simple k)
+    ∷ same (eqb p 21) (is versions k)
     ∷ []
 
 agree : (p : ℕ) → all (tests p (kind_at p)) ≡ true
 unfolding all kind_at kinds other_kinds
-agree p = go (ltb p 21) refl
+agree p = go (ltb p 22) refl
   where
-    go : (b : Bool) → ltb p 21 ≡ b → all (tests p (kind_at p)) ≡ true
-    go true e = unfold marked in agree_below_at (λ p. all (tests p (kind_at p))) (λ p. true) 21 p refl (ltb-true p 21 e)
+    go : (b : Bool) → ltb p 22 ≡ b → all (tests p (kind_at p)) ≡ true
+    go true e = unfold marked in agree_below_at (λ p. all (tests p (kind_at p))) (λ p. true) 22 p refl (ltb-true p 22 e)
     go false e =
-        let h = ltb-false p 21 e in
+        let h = ltb-false p 22 e in
         let k : kind_at p ≡ reserved = get_or-eq_default kinds reserved {n = p} h in
-        rw (k, above 0x1047ff p (omega arith) h, above 0x70000 p (omega arith) h, above 0x82000 p (omega arith) h, ne_eqb p 12 (omega arith), ne_eqb p 15 (omega arith), above 0x1f77ff p (omega arith) h)
+        rw (k, above 0x1047ff p (omega arith) h, above 0x70000 p (omega arith) h, above 0x82000 p (omega arith) h, ne_eqb p 12 (omega arith), ne_eqb p 15 (omega arith), above 0x1f77ff p (omega arith) h, ne_eqb p 21 (omega arith))
 
 module _ (p : ℕ) where
   number_told : marked 0x1047ff p ≡ is number (kind_at p)
@@ -166,6 +169,9 @@ module _ (p : ℕ) where
 
   pub simple_told : marked 0x1f77ff p ≡ is_simple (kind_at p)
   simple_told = same_is _ _ (all_at (tests p (kind_at p)) (agree p) 5)
+
+  versions_told : eqb p 21 ≡ is versions (kind_at p)
+  versions_told = same_is _ _ (all_at (tests p (kind_at p)) (agree p) 6)
 
   pub number_at_lem : marked 0x1047ff p ≡ true → kind_at p ≡ number
   number_at_lem a = is_it number (kind_at p) (sym number_told ∙ a)
@@ -188,16 +194,20 @@ module _ (p : ℕ) where
   pub address_at_lem : p ≡ 15 → kind_at p ≡ address
   address_at_lem a = is_it address (kind_at p) (sym address_told ∙ eq-eqb p 15 a)
 
-  pub none_at : marked 0x1047ff p ≡ false → marked 0x70000 p ≡ false → marked 0x82000 p ≡ false → (p ≡ 12 → ⊥) → (p ≡ 15 → ⊥) → kind_at p ≡ reserved
-  none_at a b c d e = go (kind_at p) (sym number_told ∙ a) (sym cid_told ∙ b) (sym flag_told ∙ c) (sym token_told ∙ ne_eqb p 12 d) (sym address_told ∙ ne_eqb p 15 e)
+  pub versions_at_lem : p ≡ 21 → kind_at p ≡ versions
+  versions_at_lem a = is_it versions (kind_at p) (sym versions_told ∙ eq-eqb p 21 a)
+
+  pub none_at : marked 0x1047ff p ≡ false → marked 0x70000 p ≡ false → marked 0x82000 p ≡ false → (p ≡ 12 → ⊥) → (p ≡ 15 → ⊥) → (p ≡ 21 → ⊥) → kind_at p ≡ reserved
+  none_at a b c d e f = go (kind_at p) (sym number_told ∙ a) (sym cid_told ∙ b) (sym flag_told ∙ c) (sym token_told ∙ ne_eqb p 12 d) (sym address_told ∙ ne_eqb p 15 e) (sym versions_told ∙ ne_eqb p 21 f)
     where
-      go : (k : Kind) → is number k ≡ false → is cid k ≡ false → is flag k ≡ false → is token k ≡ false → is address k ≡ false → k ≡ reserved
-      go number a b c d e = cc
-      go cid a b c d e = cc
-      go flag a b c d e = cc
-      go token a b c d e = cc
-      go address a b c d e = cc
-      go reserved a b c d e = refl
+      go : (k : Kind) → is number k ≡ false → is cid k ≡ false → is flag k ≡ false → is token k ≡ false → is address k ≡ false → is versions k ≡ false → k ≡ reserved
+      go number a b c d e f = cc
+      go cid a b c d e f = cc
+      go flag a b c d e f = cc
+      go token a b c d e f = cc
+      go address a b c d e f = cc
+      go versions a b c d e f = cc
+      go reserved a b c d e f = refl
 
 -- A VALUE TOLD BY ITS LENGTH: between the least and the greatest, of which a number's are its own
 exactly : (n l : ℕ) → (leb n l && leb l (n + 0)) ≡ eqb l n
@@ -240,6 +250,7 @@ module _ (a len : ℕ) (x : Decoded) (rest : List ℕ) (room : 8 ≤ length rest
       go cid s = by_length a (take len rest) cid (leb 0 len && leb len 20) refl refl (rw (long, leb-zero len))
       go token s = by_length a (take len rest) token (leb 16 len && leb len 16) refl refl (exactly 16 len ∙ rw long)
       go address s = cc
+      go versions s = cc
       go reserved s = cc
 
 -- A VALUE FOR A PLACE
@@ -272,12 +283,13 @@ pub kept_number : (o : Outcome Decoded) → (holds o).kept ≡ value o
 kept_number (accepted a) = refl
 kept_number (refused e) = refl
 
--- no other value that fits is longer than 61 bytes
-pub short : (k : Kind) (v : List ℕ) → (k ≡ number → ⊥) → fits k v ≡ true → length v ≤ 61
+-- no other value that fits is longer than 68 bytes
+pub short : (k : Kind) (v : List ℕ) → (k ≡ number → ⊥) → fits k v ≡ true → length v ≤ 68
 unfolding fits
 short number v n f = absurd (n refl)
 short flag v n f = omega (arith, eqb-true (length v) 0 f)
 short cid v n f = omega (arith, leb-true (length v) 20 f)
 short token v n f = omega (arith, eqb-true (length v) 16 f)
 short address v n f = omega (arith, leb-true (id_length v) 20 (all_at _ f 1), eqb-true (length v) (41 + id_length v) (all_at _ f 2))
+short versions v n f = leb-true (length v) 68 (all_at _ f 1)
 short reserved v n f = cc

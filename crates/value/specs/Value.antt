@@ -4,7 +4,7 @@ use Rattle.std.specs.Prelude.{ℕ, List, Bool, true, false}
 use Rattle.refusal.specs.Outcome.{Result, accepted, refused, Outcome, pick}
 use Rattle.varint.specs.Number.{read_number}
 use Rattle.varint.specs.declared.Decoded.{Decoded}
-use Rattle.catalogue.specs.Catalogue.{Kind, number, flag, cid, token, address, reserved, kind_at, fits, illegal}
+use Rattle.catalogue.specs.Catalogue.{Kind, number, flag, cid, token, address, versions, reserved, kind_at, fits, illegal}
 use Rattle.front.specs.declared.Fault.{Fault}
 use Rattle.front.specs.declared.Fault.TheVariants.{SecondCopy, Misfit, Illegal}
 use Rattle.value.specs.declared.Held.{Held}
@@ -16,6 +16,7 @@ is_simple flag = true
 is_simple cid = true
 is_simple token = true
 is_simple address = false
+is_simple versions = false
 is_simple reserved = false
 
 -- of a value that holds no number: where it starts
@@ -33,6 +34,7 @@ held_of flag a v = stands a
 held_of cid a v = stands a
 held_of token a v = stands a
 held_of address a v = stands a
+held_of versions a v = stands a
 held_of reserved a v = stands a
 
 unfoldable pub check_kind : Kind → ℕ → List ℕ → Result Fault Held

@@ -3,13 +3,14 @@
 #![tactic(auto)]
 
 ghost use Rattle.std.specs.Prelude.{◌≡◌, true, ◌≤◌, ◌<◌, length, take};
-ghost use Rattle.catalogue.specs.Catalogue.{number, address, kind_at};
+ghost use Rattle.catalogue.specs.Catalogue.{number, address, versions, kind_at};
 ghost use Rattle.value.specs.Value.{is_simple, stands, check_kind, check_value, receive_value};
 ghost use Rattle.front.specs.Answer.{fault_outcome};
 ghost use Rattle.value.specs.Answer.{judged};
 
 use catalogue::{
-    CID_PLACES, FLAG_PLACES, NUMBER_PLACES, PREFERRED_ADDRESS, SIMPLE_PLACES, STATELESS_RESET_TOKEN,
+    CID_PLACES, FLAG_PLACES, NUMBER_PLACES, PREFERRED_ADDRESS, SIMPLE_PLACES,
+    STATELESS_RESET_TOKEN, VERSION_INFORMATION,
 };
 use connection_id::ConnectionId;
 use front::Fault;
@@ -72,6 +73,14 @@ fn check_address(start: usize, v: &[u8]) -> Result<Held, Fault>
     fits_if(v.len() == end, stands(start))
 }
 
+// Version information: that a version is zero is no fault of its parameter.
+#[tactic(auto, using(crate::proofs::Checks::by_length), unfolding(catalogue::specs::Catalogue::illegal, crate::specs::Value::held_of))]
+fn check_versions(start: usize, v: &[u8]) -> Result<Held, Fault>
+    ensures { fault_outcome result ≡ check_kind versions start v.now }
+{
+    fits_if(version_information::is_value(v), stands(start))
+}
+
 fn fits_if(test: bool, held: Held) -> Result<Held, Fault>
     ensures { fault_outcome result ≡ judged test held }
 {
@@ -98,6 +107,9 @@ fn check_narrow(place: usize, start: usize, v: &[u8]) -> Result<Held, Fault>
     }
     if place == PREFERRED_ADDRESS {
         return check_address(start, v);
+    }
+    if place == VERSION_INFORMATION {
+        return check_versions(start, v);
     }
     Err(Fault::Misfit)
 }

@@ -11,7 +11,7 @@ use lib.ListN.{length, take, drop}
 use borrow.Author.Tests.{lt-ltb}
 use Rattle.refusal.specs.Outcome.{accepted, refused, pick}
 use Rattle.varint.specs.Number.{read_number}
-use Rattle.catalogue.specs.Catalogue.{Kind, number, flag, cid, token, address, reserved, places, place_of, kind_at}
+use Rattle.catalogue.specs.Catalogue.{Kind, number, flag, cid, token, address, reserved, versions, places, place_of, kind_at}
 use Rattle.catalogue.proofs.Places.{place_within}
 use Rattle.marks.specs.Mark.{marked}
 use Rattle.record.specs.Values.{value}
@@ -38,6 +38,7 @@ no_number cid v n = refl
 no_number token v n = refl
 no_number address v n = refl
 no_number reserved v n = refl
+no_number versions v n = refl
 
 module _ (w : List ℕ) (p : Parameter) (q : accepted p ≡ located w 0) where
   abbrev v : List ℕ

@@ -8,6 +8,7 @@
 --     or_below          numbers joined bit by bit are below a power of two exactly if both are
 --     zeros_drop        zeros from a place on: the byte there, and the rest
 --     zeros_end         from the end on, only the bits met before count
+--     member_drop, member_end    whether x is among the elements from a place on, and from the end on
 --     joined            two numbers side by side in 64 bits
 --     word_append       bytes as a number, part by part
 --     zeros_word        bytes are zeros from a place on exactly if their number, shifted, is 0
@@ -15,7 +16,7 @@
 use Prim.Native.Nat.{ℕ, zero, suc, ◌+◌, ◌-◌, ◌*◌, ◌/◌, ◌%◌, ◌^◌, ◌≤◌, ◌<◌}
 use mathlib.Core.Path.{◌≡◌, refl, ap, ap₂, sym, ◌∙◌}
 use mathlib.Core.List.{List, [], ◌∷◌, ◌++◌}
-use mathlib.Core.Bool.{Bool, true, false, ◌&&◌, and-true, and-false, and_assoc}
+use mathlib.Core.Bool.{Bool, true, false, ◌&&◌, ◌||◌, and-true, and-false, and_assoc, or_assoc, or-false}
 use native.Mathlib.Omega.{arith}
 use lib.ListN.{length, get_or, take, drop, replicate, drop_of_length-le, length-drop}
 use lib.Seq.{drop-cons, get_or-drop, take_all}
@@ -32,7 +33,7 @@ use Rattle.std.proofs.lemmas.Bool.Decides.{nat_tests}
 use Rattle.std.proofs.lemmas.List.{drop_all, drop_more, drop-replicate}
 use Rattle.std.proofs.lemmas.Nat.{le_or_l, le_or_r}
 use Rattle.std.specs.Int.{w64, from_le_bytes}
-use Rattle.words.specs.Words.{every, zeros, same_bytes, word_of, bytewise, Word, elements}
+use Rattle.words.specs.Words.{every, member, zeros, same_bytes, word_of, bytewise, Word, elements}
 
 pub same_itself : (l : List ℕ) → same_bytes l l ≡ true
 same_itself [] = refl
@@ -73,6 +74,13 @@ zeros_drop acc l i h = rw (drop_more l i 0 h, or_none acc (get_or l i 0)) (sym (
 
 pub zeros_end : (acc : ℕ) (l : List ℕ) (i : ℕ) → length l ≤ i → (eqb acc 0 && zeros (drop i l)) ≡ eqb acc 0
 zeros_end acc l i h = rw (drop_all i l h) (and-true (eqb acc 0))
+
+-- the elements from place i on, with what was met before them
+pub member_drop : (met : Bool) (x : ℕ) (l : List ℕ) (i : ℕ) → i < length l → (met || member x (drop i l)) ≡ ((met || eqb x (get_or l i 0)) || member x (drop (i + 1) l))
+member_drop met x l i h = rw (drop_more l i 0 h) (sym (or_assoc met (eqb x (get_or l i 0)) (member x (drop (i + 1) l))))
+
+pub member_end : (met : Bool) (x : ℕ) (l : List ℕ) (i : ℕ) → length l ≤ i → (met || member x (drop i l)) ≡ met
+member_end met x l i h = rw (drop_all i l h) (or-false met)
 
 pub every_at : (f : ℕ → Bool) (l : List ℕ) → every f l ≡ true → (p : ℕ) → p < length l → f (get_or l p 0) ≡ true
 every_at f [] h p k = absurd (omega arith)

@@ -1,2 +1,4 @@
 pub mod Laws
 pub mod Big
+pub mod Stores
+pub mod Numbers

@@ -1,5 +1,5 @@
 -- Words that several crates' definitions use.
-use Rattle.std.specs.Prelude.{ℕ, zero, suc, ◌+◌, ◌*◌, ◌/◌, ◌%◌, ◌^◌, ◌<◌, ◌≡◌, Bool, true, false, ◌&&◌, List, [], ◌∷◌, length, get_or, eqb, ltb}
+use Rattle.std.specs.Prelude.{ℕ, zero, suc, ◌+◌, ◌*◌, ◌/◌, ◌%◌, ◌^◌, ◌<◌, ◌≡◌, Bool, true, false, ◌&&◌, ◌||◌, List, [], ◌∷◌, ◌++◌, length, get_or, take, drop, eqb, ltb}
 
 -- every element passes
 abbrev pub every : (ℕ → Bool) → List ℕ → Bool
@@ -10,6 +10,11 @@ every f (x ∷ xs) = f x && every f xs
 abbrev pub zeros : List ℕ → Bool
 zeros [] = true
 zeros (b ∷ bs) = eqb b 0 && zeros bs
+
+-- x is one of the elements
+abbrev pub member : ℕ → List ℕ → Bool
+member x [] = false
+member x (y ∷ ys) = eqb x y || member x ys
 
 -- two lists hold the same
 abbrev pub same_bytes : List ℕ → List ℕ → Bool
@@ -27,6 +32,16 @@ value_from a (b ∷ bs) = value_from (a * 256 + b) bs
 abbrev pub bytes_of : ℕ → ℕ → List ℕ
 bytes_of zero v = []
 bytes_of (suc n) v = v / 256 ^ n % 256 ∷ bytes_of n v
+
+-- numbers of w bytes each, one after another: their bytes, and n numbers of some bytes. Where these end a number has the bytes that are left, and
+-- then it is 0
+unfoldable pub numbers_bytes : ℕ → List ℕ → List ℕ
+numbers_bytes w [] = []
+numbers_bytes w (x ∷ xs) = bytes_of w x ++ numbers_bytes w xs
+
+unfoldable pub numbers_of : ℕ → ℕ → List ℕ → List ℕ
+numbers_of w zero bs = []
+numbers_of w (suc n) bs = value_from 0 (take w bs) ∷ numbers_of w n (drop w bs)
 
 -- the number that the bytes make, low byte first
 abbrev pub word_of : List ℕ → ℕ

@@ -15,12 +15,14 @@ use Rattle.refusal.specs.Outcome.{pick, all}
 use Rattle.refusal.proofs.Laws.{all_at}
 use Rattle.varint.specs.Number.{bound, form, tag_of}
 use Rattle.connection_id.specs.ConnectionId.{cid_of, formed_cid}
+use Rattle.words.specs.Words.{numbers_bytes}
+use Rattle.version_information.specs.VersionInformation.{formed_versions, versions_bytes}
 use Rattle.record.specs.declared.TransportParameters.{TransportParameters}
 use Rattle.record.specs.Optional.{OptionalConnectionId}
 use Rattle.std.specs.Prelude.{Some}
 use Rattle.record.specs.declared.ReservedTransportParameter.{ReservedTransportParameter}
 use Rattle.catalogue.specs.Catalogue.{Kind, reserved, places, ids, id_at, kinds, kind_at, defaults, parameter, parameter_if, widest}
-use Rattle.record.specs.Values.{number_out, optional_out, flag_out, cid_out, token_of, token_out, family_out, address_out, no_order, other_values, values_of}
+use Rattle.record.specs.Values.{number_out, optional_out, flag_out, cid_out, token_of, token_out, family_out, address_out, versions_out, no_order, other_values, values_of}
 use Rattle.record.specs.Record.{formed_optional, formed_optional_cid, formed_token, formed_optional_token, formed_family, formed_address, formed_reserved, formed_order, well_formed}
 use Rattle.catalogue.specs.Sum.{sum}
 use Rattle.catalogue.proofs.Sums.{sum_le}
@@ -84,7 +86,7 @@ pub longest : (r : TransportParameters) (os : List ℕ) → well_formed r ≡ tr
 longest r os w h =
     rw (length_extension r os h) (omega (arith, all_widths, sum_le places (λ p. length (parameter_at r p)) width_at (parameter_width r w)))
 
--- numbers of 8 bytes, IDs and payload in full
+-- numbers of 8 bytes, IDs, payload and versions in full
 unfoldable pub longest_record : TransportParameters
 longest_record =
     record {
@@ -105,6 +107,7 @@ longest_record =
             connection_id = cid_of (replicate 20 255);
             stateless_reset_token = token_of (replicate 16 255);
           };
+      version_information = record { present = true; available_len = 16; chosen = 2 ^ 32 - 1; available = replicate 16 (2 ^ 32 - 1) };
       grease_transport_parameter = record { present = true; id = bound - 8; payload = replicate 16 255; payload_len = 16 };
       write_order = no_order;
     }
@@ -113,5 +116,5 @@ longest_record =
     longest_cid = record { present = true; value = cid_of (replicate 20 255) }
 
 pub reached : (well_formed longest_record ≡ true) × (length (extension longest_record catalogue_order) ≡ max_extension)
-unfolding longest_record well_formed all formed_reserved formed_optional_token formed_token formed_optional formed_address formed_family formed_optional_cid formed_cid formed_order no_order cid_of extension catalogue_order parameter_at reserved_bytes values_of other_values number_out optional_out flag_out cid_out token_out address_out family_out defaults id_at ids parameter form tag_of
+unfolding longest_record well_formed all formed_reserved formed_optional_token formed_token formed_optional formed_address formed_family formed_optional_cid formed_cid formed_order no_order formed_versions versions_bytes numbers_bytes cid_of extension catalogue_order parameter_at reserved_bytes values_of other_values number_out optional_out flag_out cid_out token_out address_out versions_out family_out defaults id_at ids parameter form tag_of
 reached = (refl, refl)

@@ -19,6 +19,7 @@ use Rattle.record.specs.declared.ReservedTransportParameter.{ReservedTransportPa
 use Rattle.std.specs.Bool.{then_some}
 use Rattle.record.specs.Record.{is_present, least, formed_optional_cid, formed_reserved}
 use Rattle.wire.specs.Wire.{put, due_value, due_number}
+use Rattle.wire.proofs.Put.{put_nil}
 use Rattle.laying.specs.Laying.{laid_number, laid_field}
 use Rattle.laying.proofs.Wide.{is_field, field_clear, number_clear}
 use Rattle.writer.specs.Laid.{laid, Field, Next}
@@ -67,3 +68,8 @@ module _ {p at : ℕ} {st out : List ℕ} (x : Next p at st out) (z : ℕ) (e : 
 
     pub added : (k : ℕ) → (at + n, take at out ++ (ys ++ drop (z - at) (drop at out)), set st k (at + n)) ≡ laid (s ∷ []) k at out st
     added k = rw (← e) (laid_one s k at n out ys st (rw (← e) at w))
+
+-- version information that is absent
+pub versions_none : (present : Bool) (id : ℕ) (v out : List ℕ) → present ≡ false → (0, out) ≡ put (due_value present id v) out
+unfolding due_value
+versions_none present id v out e = rw e (put_nil out)

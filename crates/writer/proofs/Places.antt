@@ -19,14 +19,15 @@ use Rattle.record.specs.declared.TransportParameters.{TransportParameters}
 use Rattle.record.specs.Optional.{OptionalNumber}
 use Rattle.std.specs.Prelude.{None, Some}
 use Rattle.record.specs.declared.ReservedTransportParameter.{ReservedTransportParameter}
-use Rattle.catalogue.specs.Catalogue.{Kind, number, flag, cid, token, address, reserved, places, id_at, kind_at, defaults, widest, parameter, parameter_if}
+use Rattle.catalogue.specs.Catalogue.{Kind, number, flag, cid, token, address, versions, reserved, places, id_at, kind_at, defaults, widest, parameter, parameter_if}
 use Rattle.catalogue.proofs.Places.{id_lt}
-use Rattle.record.specs.Values.{number_out, optional_out, flag_out, cid_out, token_out, address_out, other_values, values_of}
+use Rattle.record.specs.Values.{number_out, optional_out, flag_out, cid_out, token_out, address_out, versions_out, other_values, values_of}
 use Rattle.record.specs.Record.{is_present, least, formed_optional, formed_optional_cid, formed_token, formed_optional_token, formed_address, formed_reserved, formed_order, well_formed}
 use Rattle.record.proofs.KindLaws.{IfSome, Sound}
 use Rattle.record.proofs.Records.{Families, number_lt, sound}
 use Rattle.wire.specs.Wire.{due_value, due_number, number_at}
 use Rattle.wire.specs.Stored.{joined, each}
+use Rattle.version_information.specs.VersionInformation.{formed_versions, versions_bytes}
 use Rattle.wire.proofs.Stored.{length_each}
 use Rattle.wire.proofs.Put.{is_due, number_is_due}
 use Rattle.order.specs.Order.{catalogue_order}
@@ -43,6 +44,7 @@ pub record Formed (r : TransportParameters) : Type 0 where
   pub original : formed_optional_cid r.original_dst_cid ≡ true
   pub initial : formed_optional_cid r.initial_src_cid ≡ true
   pub retry : formed_optional_cid r.retry_src_cid ≡ true
+  pub versions : formed_versions r.version_information ≡ true
   pub order : length r.write_order.places ≡ places
 
 pub formed : (r : TransportParameters) → well_formed r ≡ true → Formed r
@@ -56,7 +58,8 @@ formed r w =
       original = all_at _ w 6;
       initial = all_at _ w 7;
       retry = all_at _ w 8;
-      order = eqb-true _ _ (all_at _ (all_at _ w 10) 0);
+      versions = all_at _ w 10;
+      order = eqb-true _ _ (all_at _ (all_at _ w 11) 0);
     }
 
 -- a number, unless it is the default
@@ -75,13 +78,14 @@ optional_out_lem id None h f = number_is_due id 0 false h (omega arith)
 optional_out_lem id (Some x) h f = number_is_due id x true h (ltb-true _ _ f)
 
 -- a value of a kind, which is short
-pub widest_le : (k : Kind) → widest k ≤ 61
+pub widest_le : (k : Kind) → widest k ≤ 68
 unfolding widest
 widest_le number = omega arith
 widest_le flag = omega arith
 widest_le cid = omega arith
 widest_le token = omega arith
 widest_le address = omega arith
+widest_le versions = omega arith
 widest_le reserved = omega arith
 
 value_out : (F : Type 0) (k : Kind) (id : ℕ) (b : Bool) (v : List ℕ) → id < bound → IfSome (Sound F k) (pick b (some v) none)
@@ -111,7 +115,7 @@ each_same f g zero h = refl
 each_same f g (suc n) h = ap₂ (λ (ss : List (List ℕ)) (s : List ℕ). ss ++ (s ∷ [])) (each_same f g n (λ p k. h p (omega arith))) (h n (omega arith))
 
 module _ (r : TransportParameters) where
-  -- what the code lays at places 11 to 15, and 16 to 20
+  -- what the code lays at places 11 to 15, 16 to 20, and 21
   abbrev pub from11 : List (List ℕ)
   from11 =
       due_value r.grease_transport_parameter.present r.grease_transport_parameter.id (take r.grease_transport_parameter.payload_len r.grease_transport_parameter.payload)
@@ -127,6 +131,12 @@ module _ (r : TransportParameters) where
       ∷ due_value r.retry_src_cid.present (id_at 18) (cid_bytes r.retry_src_cid.value)
       ∷ due_value r.grease_quic_bit (id_at 19) []
       ∷ due_number (is_present r.min_ack_delay) (id_at 20) (least r.min_ack_delay) ∷ []
+
+  abbrev pub from21 : List (List ℕ)
+  from21 = due_value r.version_information.present (id_at 21) (versions_bytes r.version_information) ∷ []
+
+  abbrev pub last : List (List ℕ)
+  last = parameter_at r 21 ∷ []
 
   pub in_catalogue_order : joined (each (parameter_at r) places) ≡ extension r catalogue_order
   unfolding joined each extension catalogue_order
@@ -166,11 +176,18 @@ module _ (r : TransportParameters) where
           optional_out_lem (id_at 20) _ (id_lt 20 (omega arith) refl) (all_at _ w 9),
         )
 
+    last_21 : from21 ≡ last
+    unfolding parameter_at values_of other_values versions_out
+    last_21 = rw (at_place 21 _ _ (omega arith) refl (sound r w 21))
+
     pub room_11 : (at : ℕ) (st out : List ℕ) → Room (five r 11) at st out → Room from11 at st out
     room_11 at st out x = rw five_11 x
 
     pub room_16 : (at : ℕ) (st out : List ℕ) → Room (five r 16) at st out → Room from16 at st out
     room_16 at st out x = rw five_16 x
+
+    pub room_21 : (at : ℕ) (st out : List ℕ) → Room last at st out → Room from21 at st out
+    room_21 at st out x = rw last_21 x
 
     pub laid_11 : (k at : ℕ) (out st : List ℕ) {x : Laid} → x ≡ laid from11 k at out st → x ≡ laid (five r 11) k at out st
     laid_11 k at out st e = rw (← five_11) e
@@ -178,22 +195,27 @@ module _ (r : TransportParameters) where
     pub laid_16 : (k at : ℕ) (out st : List ℕ) {x : Laid} → x ≡ laid from16 k at out st → x ≡ laid (five r 16) k at out st
     laid_16 k at out st e = rw (← five_16) e
 
-    all_places : each (number_at r.numbers) 11 ++ (five r 11 ++ five r 16) ≡ each (parameter_at r) places
+    pub laid_21 : (k at : ℕ) (out st : List ℕ) {x : Laid} → x ≡ laid from21 k at out st → x ≡ laid last k at out st
+    laid_21 k at out st e = rw (← last_21) e
+
+    all_places : each (number_at r.numbers) 11 ++ (five r 11 ++ (five r 16 ++ last)) ≡ each (parameter_at r) places
     unfolding each five
-    all_places = ap (λ (ss : List (List ℕ)). ss ++ (five r 11 ++ five r 16)) (each_same (number_at r.numbers) (parameter_at r) 11 numbers_out)
+    all_places = ap (λ (ss : List (List ℕ)). ss ++ (five r 11 ++ (five r 16 ++ last))) (each_same (number_at r.numbers) (parameter_at r) 11 numbers_out)
 
-    pub all_due : each (number_at r.numbers) 11 ++ (from11 ++ from16) ≡ each (parameter_at r) places
-    all_due = ap₂ (λ (ss ts : List (List ℕ)). each (number_at r.numbers) 11 ++ (ss ++ ts)) five_11 five_16 ∙ all_places
+    pub all_due : each (number_at r.numbers) 11 ++ (from11 ++ (from16 ++ from21)) ≡ each (parameter_at r) places
+    all_due =
+        ap₂ (λ (ss ts : List (List ℕ)). each (number_at r.numbers) 11 ++ (ss ++ ts)) five_11 (ap₂ (λ (ss ts : List (List ℕ)). ss ++ ts) five_16 last_21) ∙ all_places
 
-    pub room_all : (at : ℕ) (st out : List ℕ) → Room (each (parameter_at r) places) at st out → Room (each (number_at r.numbers) 11 ++ (five r 11 ++ five r 16)) at st out
+    pub room_all : (at : ℕ) (st out : List ℕ) → Room (each (parameter_at r) places) at st out → Room (each (number_at r.numbers) 11 ++ (five r 11 ++ (five r 16 ++ last))) at st out
     room_all at st out x = rw all_places x
 
-    -- all three parts, one after another
-    pub whole_catalogue : (a b n at : ℕ) (out st o₁ s₁ o₂ s₂ o₃ s₃ : List ℕ) → (a, o₁, s₁) ≡ laid (each (number_at r.numbers) 11) 1 at out st
-        → (b, o₂, s₂) ≡ laid (five r 11) 12 a o₁ s₁ → (n, o₃, s₃) ≡ laid (five r 16) 17 b o₂ s₂
-        → (n, o₃, s₃) ≡ laid (each (parameter_at r) places) 1 at out st
-    whole_catalogue a b n at out st o₁ s₁ o₂ s₂ o₃ s₃ e₁ e₂ e₃ =
-        e₃
-        ∙ laid_then (five r 11) (five r 16) 12 17 a b o₁ s₁ o₂ s₂ (unfold five in refl) e₂
-        ∙ laid_then (each (number_at r.numbers) 11) (five r 11 ++ five r 16) 1 12 at a out st o₁ s₁ (rw (length_each (number_at r.numbers) 11)) e₁
+    -- all four parts, one after another
+    pub whole_catalogue : (a b c n at : ℕ) (out st o₁ s₁ o₂ s₂ o₃ s₃ o₄ s₄ : List ℕ) → (a, o₁, s₁) ≡ laid (each (number_at r.numbers) 11) 1 at out st
+        → (b, o₂, s₂) ≡ laid (five r 11) 12 a o₁ s₁ → (c, o₃, s₃) ≡ laid (five r 16) 17 b o₂ s₂ → (n, o₄, s₄) ≡ laid last 22 c o₃ s₃
+        → (n, o₄, s₄) ≡ laid (each (parameter_at r) places) 1 at out st
+    whole_catalogue a b c n at out st o₁ s₁ o₂ s₂ o₃ s₃ o₄ s₄ e₁ e₂ e₃ e₄ =
+        e₄
+        ∙ laid_then (five r 16) last 17 22 b c o₂ s₂ o₃ s₃ (unfold five in refl) e₃
+        ∙ laid_then (five r 11) (five r 16 ++ last) 12 17 a b o₁ s₁ o₂ s₂ (unfold five in refl) e₂
+        ∙ laid_then (each (number_at r.numbers) 11) (five r 11 ++ (five r 16 ++ last)) 1 12 at a out st o₁ s₁ (rw (length_each (number_at r.numbers) 11)) e₁
         ∙ rw all_places

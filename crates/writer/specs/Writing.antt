@@ -28,7 +28,7 @@ extension r os = concat_of (parameter_at r) os
 
 -- no extension of a well-formed record is longer, in bytes (proofs/Extension.antt)
 abbrev pub max_extension : ℕ
-max_extension = 314
+max_extension = 385
 
 -- no order given means catalogue order
 unfoldable pub order_of : WriteOrder → List ℕ

@@ -5,6 +5,7 @@ ghost use Rattle.std.specs.Prelude.{◌≡◌, [], ◌∷◌, ◌++◌, true, �
 ghost use Rattle.refusal.specs.Outcome.{front, store};
 ghost use Rattle.refusal.specs.Answer.{outcome_of};
 ghost use Rattle.connection_id.specs.ConnectionId.{cid_bytes, formed_cid};
+ghost use Rattle.version_information.specs.VersionInformation.{formed_versions, versions_bytes};
 ghost use Rattle.catalogue.specs.Catalogue.{places, id_at};
 ghost use Rattle.record.specs.Record.{is_present, least, formed_optional_cid, formed_address, formed_reserved, well_formed};
 ghost use Rattle.order.specs.Order.{permutation};
@@ -19,6 +20,7 @@ use catalogue::{
     DEFAULTS, DISABLE_ACTIVE_MIGRATION, GREASE_QUIC_BIT, IDS, INITIAL_SRC_CID,
     MAX_DATAGRAM_FRAME_SIZE, MAX_EXTENSION, MIN_ACK_DELAY, NUMBERS, ORIGINAL_DST_CID, PLACES,
     PREFERRED_ADDRESS, RESERVED, RETRY_SRC_CID, STATELESS_RESET_TOKEN, STATELESS_RESET_TOKEN_ID,
+    VERSION_INFORMATION, VERSION_INFORMATION_ID,
 };
 use connection_id::ConnectionId;
 use laying::{lay_field, lay_number};
@@ -28,7 +30,8 @@ use record::{
     WriteOrder,
 };
 use refusal::Refusal;
-use wire::put_bytes;
+use version_information::VersionInformation;
+use wire::{put_bytes, put_value};
 
 // So many bytes are copied at once.
 const BLOCK: usize = 16;
@@ -43,6 +46,19 @@ struct Draft {
     // where the parameter of each place starts, and the last one ends
     starts: [usize; PLACES + 1],
     parts: [u8; SCRATCH],
+}
+
+// Version information as a parameter, if it is present. Gives its byte count, 0 for nothing, as the writers of crate wire do.
+#[tactic(auto, using(crate::proofs::Parts::versions_none))]
+fn put_versions(v: &VersionInformation, out: &mut [u8]) -> usize
+    requires { formed_versions v.now ≡ true }
+    ensures { (result, out.new) ≡ put (due_value v.now.present (id_at 21) (versions_bytes v.now)) out.old }
+{
+    if !v.present {
+        return 0;
+    }
+    let bytes = v.to_bytes();
+    put_value(true, VERSION_INFORMATION_ID, &bytes[..v.size()], out)
 }
 
 // Each lays the parameter due at a place, if it is, behind the first `at` bytes, notes where the next place starts, and gives that. `at` is no field:
@@ -75,6 +91,15 @@ impl Draft {
     {
         let end = at + put_address(*a, &mut self.parts[at..]);
         self.starts[PREFERRED_ADDRESS + 1] = end;
+        end
+    }
+
+    fn versions(&mut self, at: usize, v: &VersionInformation) -> usize
+        requires { (formed_versions v.now ≡ true) × Before 21 at self.old }
+        ensures { Adds (due_value v.now.present (id_at 21) (versions_bytes v.now) ∷ []) 22 at self.old result self.new }
+    {
+        let end = at + put_versions(v, &mut self.parts[at..]);
+        self.starts[VERSION_INFORMATION + 1] = end;
         end
     }
 
@@ -164,7 +189,8 @@ impl Draft {
     {
         let a = self.numbers(&r.numbers);
         let b = self.places_11_to_15(a, r);
-        self.places_16_to_20(b, r)
+        let c = self.places_16_to_20(b, r);
+        self.versions(c, &r.version_information)
     }
 }
 

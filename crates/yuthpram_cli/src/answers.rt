@@ -16,6 +16,7 @@ use image::{CID_SIZE, RECORD_SIZE};
 use reduced::note_reduced;
 use refusal::Refusal;
 use rules::Side;
+use show::rows::ORDER_AT;
 use std::alloc::Global;
 use text::out::{Count, HexBytes, Out};
 use varint::{Decoded, VarInt};
@@ -80,9 +81,9 @@ pub fn check(out: &mut Out, side: Side, src: &[u8]) -> Status
     }
 }
 
-// The order that the image of a record holds: its last bytes.
+// The order that the image of a record holds.
 fn order_in(record: &[u8; RECORD_SIZE]) -> &[u8] {
-    &record[RECORD_SIZE - PLACES..]
+    &record[ORDER_AT..ORDER_AT + PLACES]
 }
 
 // Tells what is wrong with an order.
@@ -91,7 +92,7 @@ pub fn order_fault(out: &mut Out, order: &[u8]) -> Status
 {
     match order::order_fault(order) {
         None => {
-            out.say("a permutation of 0 to 20\n");
+            out.say("a permutation of 0 to 21\n");
             Status::Answered
         }
         Some(_) => {

@@ -15,7 +15,7 @@ const USAGE: &str =
   yuthpram check SIDE --record [FILE]  tell whether a record in text form is legal for SIDE to read
   yuthpram write [FILE]                write the extension of a record in text form
   yuthpram length [FILE]               tell how long it will be, in every order
-  yuthpram order_fault [PLACE ..]      tell whether an order is a permutation of 0 to 20, and if not, its first fault
+  yuthpram order_fault [PLACE ..]      tell whether an order is a permutation of 0 to 21, and if not, its first fault
   yuthpram validate_resumption_from CACHED [FILE]
                                        tell whether a record may be resumed to from the remembered one in CACHED, and if not, what is reduced
   yuthpram authenticate_cids SIDE INITIAL_SRC ORIGINAL_DST RETRY_SRC [FILE]
@@ -36,10 +36,10 @@ The connection IDs that packets carried are hexadecimal or (empty): the Source C
 Connection ID of the client's first Initial, and the Source Connection ID of the Retry, or none without one.
 
 The text form of a record is what read shows: lines of a name and a value. Numbers are decimal, IDs and tokens hexadecimal, and what stands
-behind the value of a number is ignored. A flag has no value, or set. What has no line has its default, or is absent. Lines that read does
-not show:
+behind the value of a number is ignored. Versions are hexadecimal, with or without 0x: the chosen one, then at most 16 available ones; names
+in parentheses are ignored. A flag has no value, or set. What has no line has its default, or is absent. Lines that read does not show:
   reserved ID HEX                      the reserved parameter: its identifier and its payload
-  order 20 19 .. 0                     the places of the catalogue in the order of writing
+  order 21 20 .. 0                     the places of the catalogue in the order of writing
   # ..                                 a comment
 
 Answers go to standard output; refusals, complaints, what tidying saved and the length of a record that is shown or written to standard

@@ -7,5 +7,5 @@ pub returns : goal.returns
 returns c =
     let sized : Sized c.args.r = search rules in
     let chunk = c.in-Some.ensures.cases in
-    room_front _ _ _ 303 (image_size c.args.r sized) chunk.enough
-    (rw chunk.same at (record_stored c.args.r sized _ _ _ _ _ c.put_front.ensures c.put_ids.ensures c.put_address.ensures c.put_rest.ensures))
+    room_front _ _ _ 374 (image_size c.args.r sized) chunk.enough
+    (rw chunk.same at (record_stored c.args.r sized _ _ _ _ _ _ c.put_front.ensures c.put_ids.ensures c.put_address.ensures c.put_rest.ensures c.put_versions.ensures))

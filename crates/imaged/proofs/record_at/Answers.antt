@@ -17,6 +17,7 @@ returns c =
       c.flag_at-3.ensures,
       c.token_at.ensures,
       c.address_at.ensures,
+      c.versions_at.ensures,
       c.flag_at-4.ensures,
       c.number_at.ensures,
       c.bytes_at.ensures,

@@ -30,6 +30,15 @@ loop-place-preserved c =
     let k = put_behind _ _ _ _ _ l.invariant.0 c.put_at-at.ensures in
     (k.within, rw n (laid_more (λ j. piece_for (id_at (12 + j)) a.kept.now.src.now (found_of a.kept.now.entries) (12 + j)) (l.place - 12) 12 a.start l.at _ a.out.now [] l.out [] _ [] l.invariant.1 (rw i (laid_one _ _ _ _ _ _ [] c.put_at-at.ensures))))
 
+pub overflow_add-result : goal.overflow_add-result
+overflow_add-result c =
+    let k = put_behind _ _ _ _ _ c.loop-place.invariant.0 c.put_at.ensures in
+    omega (arith, k.within, k.same)
+
 pub returns : goal.returns
 unfolding others
-returns c = let e : c.loop-place.place - 12 ≡ 9 = omega arith in rw e at c.loop-place.invariant.1
+returns c =
+    let l = c.loop-place in
+    let a = c.args in
+    let e : l.place - 12 ≡ 9 = omega arith in
+    laid_more (λ j. piece_for (id_at (12 + j)) a.kept.now.src.now (found_of a.kept.now.entries) (12 + j)) 9 12 a.start l.at _ a.out.now [] l.out [] _ [] (rw e at l.invariant.1) (laid_one _ _ _ _ _ _ [] c.put_at.ensures)

@@ -9,17 +9,32 @@ pub returns-then-not-numbers_allowed : goal.returns-then-not-numbers_allowed
 unfolding kept_rules all
 returns-then-not-numbers_allowed c = rw (← c.numbers.ensures, sym c.numbers_allowed.ensures ∙ c.if-not-numbers_allowed.true)
 
+pub returns-then-not-presence_allowed : goal.returns-then-not-presence_allowed
+unfolding kept_rules all
+returns-then-not-presence_allowed c =
+    rw (
+      ← c.numbers.ensures,
+      sym c.numbers_allowed.ensures ∙ c.if-not-numbers_allowed.false,
+      ← c.is_met-original.ensures,
+      ← c.is_met-address.ensures,
+      ← c.is_met-retry.ensures,
+      ← c.is_met-token.ensures,
+      ← c.id_length-id_len.ensures,
+      sym c.presence_allowed.ensures ∙ c.if-not-presence_allowed.true,
+    )
+
 pub returns : goal.returns
 unfolding kept_rules all
 returns c =
     rw (
       ← c.numbers.ensures,
       sym c.numbers_allowed.ensures ∙ c.if-not-numbers_allowed.false,
-      and-true,
       ← c.is_met-original.ensures,
       ← c.is_met-address.ensures,
       ← c.is_met-retry.ensures,
       ← c.is_met-token.ensures,
       ← c.id_length-id_len.ensures,
+      sym c.presence_allowed.ensures ∙ c.if-not-presence_allowed.false,
+      and-true,
     )
-    c.presence_allowed.ensures
+    c.are_versions_allowed.ensures

@@ -15,8 +15,8 @@ part_names = map (λ name. name.now) PART_NAMES
 pub returns-then-i-lt-PLACES : goal.returns-then-i-lt-PLACES
 returns-then-i-lt-PLACES c = rw (← get_or-map (λ (name : Bor (List ℕ)). name.now)) (sym (get_or-append names part_names [] c.args.i (omega arith)))
 
-pub returns-then-i-lt26 : goal.returns-then-i-lt26
-returns-then-i-lt26 c = rw (← get_or-map (λ (name : Bor (List ℕ)). name.now)) (sym (get_or-append_right names part_names c.args.i [] (omega arith)))
+pub returns-then-i-lt27 : goal.returns-then-i-lt27
+returns-then-i-lt27 c = rw (← get_or-map (λ (name : Bor (List ℕ)). name.now)) (sym (get_or-append_right names part_names c.args.i [] (omega arith)))
 
-pub returns-else-i-lt26 : goal.returns-else-i-lt26
-returns-else-i-lt26 c = sym (get_or-eq_default (names ++ part_names) [] {n = c.args.i} (omega arith))
+pub returns-else-i-lt27 : goal.returns-else-i-lt27
+returns-else-i-lt27 c = sym (get_or-eq_default (names ++ part_names) [] {n = c.args.i} (omega arith))

@@ -8,10 +8,10 @@ use Rattle.writer.proofs.Draft.field.Goals as goal
 
 pub overflow_add-end : goal.overflow_add-end
 overflow_add-end c =
-    let long : length c.args.self.now.parts ≡ 346 = search rules in
-    added_fits c.requires.1 346 long _ _ _ (field_due c.requires.1 346 long _ _ _ _ _ _ c.requires.0 c.lay_field.ensures) (omega arith)
+    let long : length c.args.self.now.parts ≡ 417 = search rules in
+    added_fits c.requires.1 417 long _ _ _ (field_due c.requires.1 417 long _ _ _ _ _ _ c.requires.0 c.lay_field.ensures) (omega arith)
 
 pub returns : goal.returns
 returns c =
-    let long : length c.args.self.now.parts ≡ 346 = search rules in
-    added c.requires.1 346 long _ _ _ (field_due c.requires.1 346 long _ _ _ _ _ _ c.requires.0 c.lay_field.ensures) _
+    let long : length c.args.self.now.parts ≡ 417 = search rules in
+    added c.requires.1 417 long _ _ _ (field_due c.requires.1 417 long _ _ _ _ _ _ c.requires.0 c.lay_field.ensures) _

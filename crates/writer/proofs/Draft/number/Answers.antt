@@ -9,12 +9,12 @@ use Rattle.writer.proofs.Draft.number.Goals as goal
 
 pub overflow_add-end : goal.overflow_add-end
 overflow_add-end c =
-    let long : length c.args.self.now.parts ≡ 346 = search rules in
-    added_fits c.requires 346 long _ _ _ (number_due c.requires 346 long _ _ _ _ _ c.lay_number.ensures) (omega arith)
+    let long : length c.args.self.now.parts ≡ 417 = search rules in
+    added_fits c.requires 417 long _ _ _ (number_due c.requires 417 long _ _ _ _ _ c.lay_number.ensures) (omega arith)
 
 pub returns : goal.returns
 unfolding id_at ids
 returns c =
-    let long : length c.args.self.now.parts ≡ 346 = search rules in
+    let long : length c.args.self.now.parts ≡ 417 = search rules in
     let laid = rw (c.is_some.ensures, c.unwrap_or.ensures) at c.lay_number.ensures in
-    added c.requires 346 long _ _ _ (number_due c.requires 346 long _ _ _ _ _ laid) _
+    added c.requires 417 long _ _ _ (number_due c.requires 417 long _ _ _ _ _ laid) _

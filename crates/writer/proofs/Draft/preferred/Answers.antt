@@ -9,10 +9,10 @@ use Rattle.writer.proofs.Draft.preferred.Goals as goal
 
 pub overflow_add-end : goal.overflow_add-end
 overflow_add-end c =
-    let long : length c.args.self.now.parts ≡ 346 = search rules in
-    added_fits c.requires.1 346 long _ _ _ (address_due c.args.a.now _ _ _ _ c.requires.0 c.put_address.ensures) (omega arith)
+    let long : length c.args.self.now.parts ≡ 417 = search rules in
+    added_fits c.requires.1 417 long _ _ _ (address_due c.args.a.now _ _ _ _ c.requires.0 c.put_address.ensures) (omega arith)
 
 pub returns : goal.returns
 returns c =
-    let long : length c.args.self.now.parts ≡ 346 = search rules in
-    added c.requires.1 346 long _ _ _ (address_due c.args.a.now _ _ _ _ c.requires.0 c.put_address.ensures) _
+    let long : length c.args.self.now.parts ≡ 417 = search rules in
+    added c.requires.1 417 long _ _ _ (address_due c.args.a.now _ _ _ _ c.requires.0 c.put_address.ensures) _
