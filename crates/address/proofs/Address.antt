@@ -2,7 +2,8 @@
 --     family_wrote                   an address and its port
 --     cid_encoded, cid_fits, cid_kept    the ID behind its length
 --     token_behind                   the token
---     address_none, address_whole, address_off    the parameter: without room, with it, and where it is not due
+--     address_none, address_whole, address_off    the parameter: without room, with it, and where
+--       it is not due
 --     address_due                    in a well-formed record
 use Prim.Native.Nat.{ℕ, ◌+◌, ◌-◌, ◌/◌, ◌%◌, ◌≤◌, ◌<◌}
 use mathlib.Core.List.{List, [], ◌∷◌, ◌++◌, append_assoc}

@@ -13,11 +13,14 @@ use catalogue::PREFERRED_ADDRESS_ID;
 use record::{PreferredAddress, SocketAddr};
 use wire::put_bytes;
 
-// Stores the parameter, if it is present and its ID is well formed, or nothing where there is no room. Gives its byte count, 0 for nothing, as the
-// writers of crate wire do. The address is taken by value: by reference two goals stayed open.
+/// Stores the parameter, if it is present and its ID is well formed, or nothing where there is no
+/// room. Gives its byte count, 0 for nothing, as the writers of crate wire do. The address is taken
+/// by value: by reference two goals stayed open.
 #[tactic(auto, using(connection_id::proofs::Laws::cid_facts, crate::proofs::Address::address_off, crate::proofs::Address::address_none, crate::proofs::Address::address_whole), unfolding(catalogue::specs::Catalogue::id_at, catalogue::specs::Catalogue::ids))]
 pub fn put_address(a: PreferredAddress, out: &mut [u8]) -> usize
-    ensures { (result, out.new) ≡ put (due_value (a.present && formed_cid a.connection_id) (id_at 15) (address_bytes a)) out.old }
+    ensures { (result, out.new)
+        ≡ put (due_value (a.present && formed_cid a.connection_id) (id_at 15)
+        (address_bytes a)) out.old }
 {
     if !a.present {
         return 0;
@@ -34,9 +37,11 @@ pub fn put_address(a: PreferredAddress, out: &mut [u8]) -> usize
     n + 2
 }
 
-// Its value, for which there is room: an address and its port, of each family, the ID behind its length, and the token.
+// Its value, for which there is room: an address and its port, of each family, the ID behind its
+// length, and the token.
 fn put_address_value(a: &PreferredAddress, out: &mut [u8]) -> usize
-    requires { (formed_cid a.now.connection_id ≡ true) × (41 + a.now.connection_id.len ≤ length out.old) }
+    requires { (formed_cid a.now.connection_id ≡ true)
+        × (41 + a.now.connection_id.len ≤ length out.old) }
     ensures { Wrote (41 + a.now.connection_id.len) (address_bytes a.now) out.old result out.new }
 {
     put_family(&a.address_v4, out);
@@ -53,8 +58,11 @@ fn put_family<const N: usize>(a: &SocketAddr<N>, out: &mut [u8])
 }
 
 fn put_cid_and_token(a: &PreferredAddress, out: &mut [u8]) -> usize
-    requires { (formed_cid a.now.connection_id ≡ true) × (17 + a.now.connection_id.len ≤ length out.old) }
-    ensures { Wrote (17 + a.now.connection_id.len) (a.now.connection_id.len ∷ (cid_bytes a.now.connection_id ++ a.now.stateless_reset_token.bytes)) out.old result out.new }
+    requires { (formed_cid a.now.connection_id ≡ true)
+        × (17 + a.now.connection_id.len ≤ length out.old) }
+    ensures { Wrote (17 + a.now.connection_id.len)
+        (a.now.connection_id.len ∷
+        (cid_bytes a.now.connection_id ++ a.now.stateless_reset_token.bytes)) out.old result out.new }
 {
     let at = a.connection_id.encode_long(out).unwrap();
     at + put_bytes(&a.stateless_reset_token.bytes, &mut out[at..])

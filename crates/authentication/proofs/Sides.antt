@@ -1,4 +1,5 @@
--- The connection ID check, side by side: what each test of the definition says, what is accepted, and what is refused. Assumes nothing.
+-- The connection ID check, side by side: what each test of the definition says, what is accepted,
+-- and what is refused. Assumes nothing.
 --     for_server, from_server    what a server accepts
 --     for_client, from_client    what a client accepts
 --     ill_formed_lem, absent_lem, differs_lem    what is 7, 13 and 14

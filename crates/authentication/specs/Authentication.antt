@@ -1,5 +1,5 @@
--- Who is at the other end: the connection IDs of a peer's record are held to those that packets carried (RFC 9000 section 7.3). The side is
--- ours, the one that has read the record.
+-- Who is at the other end: the connection IDs of a peer's record are held to those that packets
+-- carried (RFC 9000 section 7.3). The side is ours, the one that has read the record.
 use Rattle.std.specs.Prelude.{[], ◌∷◌, Bool, ◌&&◌, ◌||◌, not}
 use Rattle.refusal.specs.Outcome.{Outcome, accepted, refused, pick, all}
 use Rattle.connection_id.specs.ConnectionId.{formed_cid, same_cid}
@@ -14,7 +14,8 @@ use Rattle.authentication.specs.declared.SeenConnectionIds.{SeenConnectionIds}
 unfoldable pub formed_seen : SeenConnectionIds → Bool
 formed_seen seen = all (formed_cid seen.initial_src_cid ∷ formed_cid seen.original_dst_cid ∷ formed_optional_cid seen.retry_src_cid ∷ [])
 
--- what a side needs: initial_src_cid; a client also original_dst_cid and, if there was a Retry, retry_src_cid
+-- what a side needs: initial_src_cid; a client also original_dst_cid and, if there was a Retry,
+-- retry_src_cid
 unfoldable pub has_needed : Side → TransportParameters → SeenConnectionIds → Bool
 has_needed Server r seen = r.initial_src_cid.present
 has_needed Client r seen =

@@ -1,4 +1,5 @@
--- Request 07: what the check says, of IDs as the bytes that packets carry, and for each side by itself.
+-- Request 07: what the check says, of IDs as the bytes that packets carry, and for each side by
+-- itself.
 use Rattle.std.specs.Prelude.{ℕ, ◌≤◌, ◌≡◌, ◌↔◌, ◌⊎◌, List, [], true, false, length}
 use Rattle.refusal.specs.Outcome.{Outcome, accepted, refused}
 use Rattle.connection_id.specs.declared.ConnectionId.{ConnectionId}
@@ -33,13 +34,15 @@ Same c d = cid_bytes c ≡ cid_bytes d
 abbrev pub Carries : OptionalConnectionId → ConnectionId → Type 0
 Carries o c = (o.present ≡ true) × Same o.value c
 
--- WHAT SECTION 7.3 LISTS. For a server: its client's initial_src_cid is the Source Connection ID of the first Initial that it sent
+-- WHAT SECTION 7.3 LISTS. For a server: its client's initial_src_cid is the Source Connection ID of
+-- the first Initial that it sent
 pub record ForServer (r : TransportParameters) (seen : SeenConnectionIds) : Type 0 where
   pub formed : Formed r seen
   pub initial : Carries r.initial_src_cid seen.initial_src_cid
 
--- for a client: so is its server's, original_dst_cid is the Destination Connection ID of its own first Initial, and retry_src_cid the Source
--- Connection ID of the Retry, if there was one, and else is absent
+-- for a client: so is its server's, original_dst_cid is the Destination Connection ID of its own
+-- first Initial, and retry_src_cid the Source Connection ID of the Retry, if there was one, and
+-- else is absent
 pub record ForClient (r : TransportParameters) (seen : SeenConnectionIds) : Type 0 where
   pub formed : Formed r seen
   pub initial : Carries r.initial_src_cid seen.initial_src_cid
@@ -73,7 +76,8 @@ pub record OtherEnd : Type 0 where
   -- each side accepts exactly what section 7.3 lists
   pub server : (r : TransportParameters) (seen : SeenConnectionIds) → (authenticate_cids Server r seen ≡ accepted tt) ↔ ForServer r seen
   pub client : (r : TransportParameters) (seen : SeenConnectionIds) → (authenticate_cids Client r seen ≡ accepted tt) ↔ ForClient r seen
-  -- 7 is what is not well formed, for either side, the record or an ID seen; 13 is an absence, and 14 a difference where nothing needed is absent
+  -- 7 is what is not well formed, for either side, the record or an ID seen; 13 is an absence, and
+  -- 14 a difference where nothing needed is absent
   pub ill_formed :
       (side : Side) (r : TransportParameters) (seen : SeenConnectionIds) → (authenticate_cids side r seen ≡ refused 7) ↔ (Formed r seen → ⊥)
   pub ids_formed : (seen : SeenConnectionIds) → (formed_seen seen ≡ true) ↔ IdsFormed seen
@@ -83,14 +87,16 @@ pub record OtherEnd : Type 0 where
   pub differs :
       (side : Side) (r : TransportParameters) (seen : SeenConnectionIds)
       → (authenticate_cids side r seen ≡ refused 14) ↔ (Formed r seen × ((Absent side r seen → ⊥) × Differs side r seen))
-  -- what a server's record is accepted with is determined by it, all three IDs and whether there was a Retry; of a client's, the one looked at
+  -- what a server's record is accepted with is determined by it, all three IDs and whether there
+  -- was a Retry; of a client's, the one looked at
   pub three_ids :
       (r : TransportParameters) (seen other : SeenConnectionIds) → authenticate_cids Client r seen ≡ accepted tt
       → authenticate_cids Client r other ≡ accepted tt → seen ≡ other
   pub one_id :
       (r : TransportParameters) (seen other : SeenConnectionIds) → authenticate_cids Server r seen ≡ accepted tt
       → authenticate_cids Server r other ≡ accepted tt → seen.initial_src_cid ≡ other.initial_src_cid
-  -- a server looks at initial_src_cid alone, and a client at these three: whatever else two well-formed records say, and legal or not
+  -- a server looks at initial_src_cid alone, and a client at these three: whatever else two
+  -- well-formed records say, and legal or not
   pub server_looks :
       (r q : TransportParameters) (seen other : SeenConnectionIds) → Formed r seen → Formed q other → r.initial_src_cid ≡ q.initial_src_cid
       → seen.initial_src_cid ≡ other.initial_src_cid → authenticate_cids Server r seen ≡ authenticate_cids Server q other
@@ -98,7 +104,8 @@ pub record OtherEnd : Type 0 where
       (r q : TransportParameters) (seen : SeenConnectionIds) → Formed r seen → Formed q seen → r.initial_src_cid ≡ q.initial_src_cid
       → r.original_dst_cid ≡ q.original_dst_cid → r.retry_src_cid ≡ q.retry_src_cid
       → authenticate_cids Client r seen ≡ authenticate_cids Client q seen
-  -- the two checks are independent: each answer of checking to a well-formed record goes with each of this one to well-formed IDs;
+  -- the two checks are independent: each answer of checking to a well-formed record goes with each
+  -- of this one to well-formed IDs;
   pub independent :
       (side : Side) (legality ids : Outcome (Unit {0})) → (legality ≡ accepted tt) ⊎ (legality ≡ refused 2)
       → (ids ≡ accepted tt) ⊎ ((ids ≡ refused 13) ⊎ (ids ≡ refused 14)) → Both side legality ids

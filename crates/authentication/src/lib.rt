@@ -1,5 +1,5 @@
-// Who is at the other end (RFC 9000 section 7.3): the connection IDs of a peer's record are held to those that packets carried, as in
-// `handle_peer_params` of quinn's connection/mod.rs.
+// Who is at the other end (RFC 9000 section 7.3): the connection IDs of a peer's record are held to
+// those that packets carried, as in `handle_peer_params` of quinn's connection/mod.rs.
 #![tactic(auto)]
 
 ghost use Rattle.std.specs.Prelude.{◌≡◌};
@@ -11,19 +11,20 @@ use record::{Optional, TransportParameters};
 use refusal::Refusal;
 use rules::Side;
 
-// The connection IDs that packets carried, each under the name of the parameter that is held to it.
+/// The connection IDs that packets carried, each under the name of the parameter that is held to
+/// it.
 #[derive(Clone, Copy, Debug, Default, PartialEq, Eq)]
 pub struct SeenConnectionIds {
-    // the Source Connection ID of the peer's first Initial
+    /// the Source Connection ID of the peer's first Initial
     pub initial_src_cid: ConnectionId,
-    // the Destination Connection ID of the client's first Initial
+    /// the Destination Connection ID of the client's first Initial
     pub original_dst_cid: ConnectionId,
-    // the Source Connection ID of the Retry, if there was one
+    /// the Source Connection ID of the Retry, if there was one
     pub retry_src_cid: Optional<ConnectionId>,
 }
 
 impl SeenConnectionIds {
-    // Every one of them, looked at or not.
+    /// Every one of them, looked at or not.
     #[tactic(auto, unfolding(crate::specs::Authentication::formed_seen, refusal::specs::Outcome::all))]
     pub fn is_well_formed(&self) -> bool
         ensures { result ≡ formed_seen self.now }
@@ -77,22 +78,23 @@ fn as_seen(side: Side, r: &TransportParameters, seen: &SeenConnectionIds) -> boo
     }
 }
 
-// Whether the peer whose record this is, is the one that the packets came from, and there was a Retry exactly if it says so.
+/// Whether the peer whose record this is, is the one that the packets came from, and there was a
+/// Retry exactly if it says so.
 #[tactic(auto, unfolding(crate::specs::Authentication::authenticate_cids))]
 pub fn authenticate_cids(
     side: Side,
-    r: TransportParameters,
-    seen: SeenConnectionIds,
+    r: &TransportParameters,
+    seen: &SeenConnectionIds,
 ) -> Result<(), Refusal>
-    ensures { outcome_of result ≡ authenticate_cids side r seen }
+    ensures { outcome_of result ≡ authenticate_cids side r.now seen.now }
 {
     if !(r.is_well_formed() & seen.is_well_formed()) {
         return Err(Refusal::IllFormed);
     }
-    if !has_needed(side, &r, &seen) {
+    if !has_needed(side, r, seen) {
         return Err(Refusal::CidAbsent);
     }
-    if !as_seen(side, &r, &seen) {
+    if !as_seen(side, r, seen) {
         return Err(Refusal::CidMismatch);
     }
     Ok(())

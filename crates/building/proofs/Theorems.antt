@@ -1,5 +1,6 @@
 -- What holds of a record that is built. Assumes nothing.
---     built_sound      it is well formed, has the order handed in, a permutation, and a reserved identifier
+--     built_sound      it is well formed, has the order handed in, a permutation, and a reserved
+--                      identifier
 use Prim.Native.Nat.{ℕ, ◌-◌, ◌%◌, ◌^◌, ◌<◌, ◌≤◌, min}
 use mathlib.Core.Path.{◌≡◌, refl}
 use mathlib.Core.List.{List, ◌++◌}
@@ -28,7 +29,7 @@ use Rattle.record.specs.Record.{least, formed_optional, formed_optional_cid, for
 use Rattle.record.proofs.Records as Places
 use Rattle.order.specs.Order.{permutation}
 use Rattle.building.specs.declared.Settings.{Settings}
-use Rattle.building.specs.Building.{sent_settings, settings_fit, id_limit, cut_size, numbers_from, draw_fits, reserved_id, reserved_from, order_from, record_from, build}
+use Rattle.building.specs.Building.{sent_settings, settings_fit, id_limit, cut_size, numbers_from, draw_fits, reserved_id, reserved_from, drawn_order, built_record, build}
 use Rattle.building.proofs.Answers.{draw_facts, order_length}
 
 -- NUMBERS below 2 ^ 62
@@ -58,11 +59,11 @@ unfolding formed_optional
 delay_formed = refl
 
 -- THE CONNECTION ID, present
-given : ConnectionId → OptionalConnectionId
-given cid = record { present = true; value = cid }
+with_cid : ConnectionId → OptionalConnectionId
+with_cid cid = record { present = true; value = cid }
 
-cid_formed : (cid : ConnectionId) → formed_cid cid ≡ true → formed_optional_cid (given cid) ≡ true
-unfolding formed_optional_cid given all
+cid_formed : (cid : ConnectionId) → formed_cid cid ≡ true → formed_optional_cid (with_cid cid) ≡ true
+unfolding formed_optional_cid with_cid all
 cid_formed cid h = rw h
 
 -- THE RESERVED PARAMETER
@@ -81,8 +82,8 @@ reserved_formed d payload h k =
     let m : length payload ≤ 16 = omega arith in
     rw (eq-eqb _ _ n, lt-ltb _ _ (id_below d h), le-leb _ _ m, drop-append_seam payload, zeros_replicate, eq-eqb _ _ (id_reserved d))
 
-order_formed : (order : List ℕ) → length order ≡ 22 → formed_order (order_from order) ≡ true
-unfolding formed_order order_from all
+order_formed : (order : List ℕ) → length order ≡ 22 → formed_order (drawn_order order) ≡ true
+unfolding formed_order drawn_order all
 order_formed order h = rw h
 
 -- THE RECORD
@@ -107,7 +108,7 @@ record Passed (s : Settings) (cid : ConnectionId) (draw : ℕ) (payload order : 
   formed : formed_cid cid ≡ true
   drawn : draw_fits draw payload ≡ true
   ordered : permutation order ≡ true
-  is : record_from s cid (reserved_from draw payload) (order_from order) ≡ r
+  is : built_record s cid (reserved_from draw payload) (drawn_order order) ≡ r
 
 passed : (s : Settings) (cid : ConnectionId) (draw : ℕ) (payload order : List ℕ) (r : TransportParameters) → build s cid draw payload order ≡ accepted r
     → Passed s cid draw payload order r
@@ -115,7 +116,7 @@ unfolding build
 passed s cid draw payload order r h = go (settings_fit s) (formed_cid cid) (draw_fits draw payload) (permutation order) refl refl refl refl h
   where
     go : (a b c d : Bool) → settings_fit s ≡ a → formed_cid cid ≡ b → draw_fits draw payload ≡ c → permutation order ≡ d
-        → pick {A = Outcome TransportParameters} a (pick b (pick c (pick d (accepted (record_from s cid (reserved_from draw payload) (order_from order))) (refused 6)) (refused 9)) (refused 7)) (refused 4) ≡ accepted r
+        → pick {A = Outcome TransportParameters} a (pick b (pick c (pick d (accepted (built_record s cid (reserved_from draw payload) (drawn_order order))) (refused 6)) (refused 9)) (refused 7)) (refused 4) ≡ accepted r
         → Passed s cid draw payload order r
     go true true true true e f g i h = record { fit = e; formed = f; drawn = g; ordered = i; is = cc }
     go true true true false e f g i h = cc
@@ -124,8 +125,8 @@ passed s cid draw payload order r h = go (settings_fit s) (formed_cid cid) (draw
     go false b c d e f g i h = cc
 
 record_formed : (s : Settings) (cid : ConnectionId) (draw : ℕ) (payload order : List ℕ) (r : TransportParameters) → Passed s cid draw payload order r
-    → well_formed (record_from s cid (reserved_from draw payload) (order_from order)) ≡ true
-unfolding record_from well_formed numbers_from given all
+    → well_formed (built_record s cid (reserved_from draw payload) (drawn_order order)) ≡ true
+unfolding built_record well_formed numbers_from with_cid all
 record_formed s cid draw payload order r p =
     let d = draw_facts draw payload p.drawn in
     let k = defaults_formed default_record default_formed in
@@ -145,14 +146,14 @@ record_formed s cid draw payload order r p =
 
 pub record Sound (order : List ℕ) (r : TransportParameters) : Type 0 where
   pub formed : well_formed r ≡ true
-  pub order_kept : r.write_order ≡ order_from order
+  pub order_kept : r.write_order ≡ drawn_order order
   pub ordered : permutation order ≡ true
   pub reserved : r.grease_transport_parameter.id % 31 ≡ 27
   pub below : r.grease_transport_parameter.id < 2 ^ 62
 
 module _ (s : Settings) (cid : ConnectionId) (draw : ℕ) (payload order : List ℕ) (r : TransportParameters) (h : build s cid draw payload order ≡ accepted r) where
   pub built_sound : Sound order r
-  unfolding record_from reserved_from
+  unfolding built_record reserved_from
   built_sound =
       let p = passed s cid draw payload order r h in
       record {

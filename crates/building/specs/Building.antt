@@ -16,7 +16,8 @@ use Rattle.rules.specs.Rules.{is_server}
 use Rattle.order.specs.Order.{permutation}
 use Rattle.building.specs.declared.Settings.{Settings}
 
--- SETTINGS. Those that are sent as they are have to be below 2 ^ 62; not so a datagram size, which is cut, or the generator's ID length
+-- SETTINGS. Those that are sent as they are have to be below 2 ^ 62; not so a datagram size, which
+-- is cut, or the generator's ID length
 unfoldable pub sent_settings : Settings → List ℕ
 sent_settings s =
     s.max_concurrent_bidi_streams
@@ -39,8 +40,9 @@ unfoldable pub cut_size : OptionalNumber → OptionalNumber
 cut_size None = None
 cut_size (Some x) = Some (min x 65535)
 
--- places 0 to 10, with the active_connection_id_limit. An absent idle timeout is 0, no timeout (RFC 9000 section 10.1); the stream window
--- is that of all three kinds of stream; ack_delay_exponent and max_ack_delay have their defaults
+-- places 0 to 10, with the active_connection_id_limit. An absent idle timeout is 0, no timeout (RFC
+-- 9000 section 10.1); the stream window is that of all three kinds of stream; ack_delay_exponent
+-- and max_ack_delay have their defaults
 unfoldable pub numbers_from : Settings → ℕ → List ℕ
 numbers_from s limit =
     least s.max_idle_timeout
@@ -56,7 +58,8 @@ numbers_from s limit =
     ∷ limit
     ∷ []
 
--- DRAWN VALUES. The reserved parameter: an identifier 31 * N + 27 (RFC 9000 sections 18.1 and 22.3) below 2 ^ 62, and a payload
+-- DRAWN VALUES. The reserved parameter: an identifier 31 * N + 27 (RFC 9000 sections 18.1 and 22.3)
+-- below 2 ^ 62, and a payload
 unfoldable pub draw_fits : ℕ → List ℕ → Bool
 draw_fits d payload = ltb d (bound - 27) && leb (length payload) 15
 
@@ -72,13 +75,14 @@ reserved_from d payload =
       payload_len = length payload;
     }
 
-unfoldable pub order_from : List ℕ → WriteOrder
-order_from order = record { present = true; places = order }
+unfoldable pub drawn_order : List ℕ → WriteOrder
+drawn_order order = record { present = true; places = order }
 
--- THE RECORD. Only a server that forbids migration disables it (RFC 9000 section 18.2); min_ack_delay is a millisecond, in microseconds
--- (draft-ietf-quic-ack-frequency-08 section 3). What neither settings nor draws say is as in the default record
-unfoldable pub record_from : Settings → ConnectionId → ReservedTransportParameter → WriteOrder → TransportParameters
-record_from s cid reserved order =
+-- THE RECORD. Only a server that forbids migration disables it (RFC 9000 section 18.2);
+-- min_ack_delay is a millisecond, in microseconds (draft-ietf-quic-ack-frequency-08 section 3).
+-- What neither settings nor draws say is as in the default record
+unfoldable pub built_record : Settings → ConnectionId → ReservedTransportParameter → WriteOrder → TransportParameters
+built_record s cid reserved order =
     record {
       numbers = numbers_from s (id_limit s.cid_len);
       disable_active_migration = is_server s.side && not s.migration;
@@ -95,13 +99,14 @@ record_from s cid reserved order =
       write_order = order;
     }
 
--- building: 4 for a setting, 7 for the connection ID, 9 for the draw or the payload, then 6 for the order
+-- building: 4 for a setting, 7 for the connection ID, 9 for the draw or the payload, then 6 for the
+-- order
 unfoldable pub build : Settings → ConnectionId → ℕ → List ℕ → List ℕ → Outcome TransportParameters
 build s cid draw payload order =
     pick (settings_fit s)
     (pick (formed_cid cid)
     (pick (draw_fits draw payload)
-    (pick (permutation order) (accepted (record_from s cid (reserved_from draw payload) (order_from order))) (refused 6))
+    (pick (permutation order) (accepted (built_record s cid (reserved_from draw payload) (drawn_order order))) (refused 6))
     (refused 9))
     (refused 7))
     (refused 4)

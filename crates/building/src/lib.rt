@@ -1,5 +1,5 @@
-// Building a record: `TransportParameters::new` and `ReservedTransportParameter::random` of quinn's transport_parameters.rs. What quinn
-// draws at random is handed in.
+// Building a record: `TransportParameters::new` and `ReservedTransportParameter::random` of quinn's
+// transport_parameters.rs. What quinn draws at random is handed in.
 #![tactic(auto)]
 
 ghost use Rattle.std.specs.Prelude.{◌≡◌, ◌&&◌, not, ◌-◌, ◌<◌};
@@ -7,7 +7,7 @@ ghost use Rattle.refusal.specs.Outcome.{accepted, refused, pick};
 ghost use Rattle.varint.specs.Number.{bound};
 ghost use Rattle.order.specs.Order.{permutation};
 ghost use Rattle.rules.specs.Rules.{is_server};
-ghost use Rattle.building.specs.Building.{settings_fit, cut_size, numbers_from, draw_fits, reserved_id, reserved_from, order_from, record_from, build};
+ghost use Rattle.building.specs.Building.{settings_fit, cut_size, numbers_from, draw_fits, reserved_id, reserved_from, drawn_order, built_record, build};
 ghost use Rattle.refusal.specs.Answer.{outcome_of};
 
 use catalogue::{ACK_DELAY_EXPONENT, ACTIVE_CONNECTION_ID_LIMIT, DEFAULTS, MAX_ACK_DELAY, NUMBERS};
@@ -17,22 +17,23 @@ use refusal::Refusal;
 use rules::Side;
 use varint::VarInt;
 
-// What `new` takes from the configurations of the transport, the endpoint and the server, and from the generator of connection IDs.
+/// What `new` takes from the configurations of the transport, the endpoint and the server, and from
+/// the generator of connection IDs.
 #[derive(Clone, Copy, Debug, PartialEq, Eq)]
 pub struct Settings {
     pub max_concurrent_bidi_streams: u64,
     pub max_concurrent_uni_streams: u64,
     pub receive_window: u64,
     pub stream_receive_window: u64,
-    // in milliseconds
+    /// in milliseconds
     pub max_idle_timeout: Option<u64>,
     pub max_udp_payload_size: u64,
     pub grease_quic_bit: bool,
     pub datagram_receive_buffer_size: Option<u64>,
-    // the length of the IDs that are generated
+    /// the length of the IDs that are generated
     pub cid_len: usize,
     pub side: Side,
-    // whether a server allows migration
+    /// whether a server allows migration
     pub migration: bool,
 }
 
@@ -108,7 +109,9 @@ fn reserved_id(draw: u64) -> u64
 // The reserved parameter of a draw and a payload.
 #[tactic(auto, using(crate::proofs::Answers::draw_facts), unfolding(crate::specs::Building::reserved_from))]
 fn reserved_of(draw: u64, payload: &[u8]) -> Result<ReservedTransportParameter, Refusal>
-    ensures { outcome_of result ≡ pick (draw_fits draw payload.now) (accepted (reserved_from draw payload.now)) (refused 9) }
+    ensures { outcome_of result
+        ≡ pick (draw_fits draw payload.now) (accepted (reserved_from draw payload.now))
+        (refused 9) }
 {
     if !draw_fits(draw, payload) {
         return Err(Refusal::InvalidDraw);
@@ -124,9 +127,10 @@ fn reserved_of(draw: u64, payload: &[u8]) -> Result<ReservedTransportParameter, 
 }
 
 // The order to write in.
-#[tactic(auto, using(crate::proofs::Answers::order_length), unfolding(crate::specs::Building::order_from))]
+#[tactic(auto, using(crate::proofs::Answers::order_length), unfolding(crate::specs::Building::drawn_order))]
 fn order_of(order: &[u8]) -> Result<WriteOrder, Refusal>
-    ensures { outcome_of result ≡ pick (permutation order.now) (accepted (order_from order.now)) (refused 6) }
+    ensures { outcome_of result
+        ≡ pick (permutation order.now) (accepted (drawn_order order.now)) (refused 6) }
 {
     if !order::is_permutation(order) {
         return Err(Refusal::InvalidOrder);
@@ -159,14 +163,14 @@ fn numbers_of(s: &Settings, limit: u64) -> [u64; NUMBERS]
 }
 
 // The record of settings that fit.
-#[tactic(auto, unfolding(crate::specs::Building::record_from, crate::specs::Building::id_limit))]
+#[tactic(auto, unfolding(crate::specs::Building::built_record, crate::specs::Building::id_limit))]
 fn record_of(
     s: &Settings,
     cid: ConnectionId,
     reserved: ReservedTransportParameter,
     order: WriteOrder,
 ) -> TransportParameters
-    ensures { result ≡ record_from s.now cid reserved order }
+    ensures { result ≡ built_record s.now cid reserved order }
 {
     let limit = cid_limit(s.cid_len == 0);
     TransportParameters {
@@ -185,7 +189,8 @@ fn record_of(
     }
 }
 
-// The record of these settings and this connection ID, with the reserved parameter and the order drawn.
+/// The record of these settings and this connection ID, with the reserved parameter and the order
+/// drawn.
 #[tactic(auto, using(refusal::proofs::Laws::raised), unfolding(crate::specs::Building::build))]
 pub fn new(
     settings: Settings,

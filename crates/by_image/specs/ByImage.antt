@@ -38,7 +38,8 @@ resume_from r cached = and_then (record_from cached) (resume r)
 unfoldable pub image_resume : List ℕ → List ℕ → Outcome (Unit {0})
 image_resume image cached = and_then (record_from image) λ r. resume_from r cached
 
--- the IDs seen, of their images; a flag says whether there was a Retry, and the image of its ID is handed in either way
+-- the IDs seen, of their images; a flag says whether there was a Retry, and the image of its ID is
+-- handed in either way
 unfoldable pub seen_from : List ℕ → List ℕ → Bool → List ℕ → Outcome SeenConnectionIds
 seen_from initial original retry_seen retry =
     and_then (cid_from initial) λ i.

@@ -10,14 +10,14 @@ use record::Optional;
 use refusal::Refusal;
 use rules::Side;
 
-// Reads an extension, and stores the record's image. A match: by `?` the record is copied more often, and reading a small one through C took 1,171
-// instructions and not 965.
+/// Reads an extension, and stores the record's image. A match: by `?` the record is copied more
+/// often, and reading a small one through C took 1,171 instructions and not 965.
 #[tactic(auto, unfolding(crate::specs::ByImage::image_read, crate::specs::ByImage::record_store))]
 pub fn read(side: Side, src: &[u8], record: &mut [u8]) -> Result<usize, Refusal>
     ensures { (outcome_of result, «record».new) ≡ image_read side src.now «record».old }
 {
     match reader::read(side, src) {
-        Ok(r) => image::image_to(r, record),
+        Ok(r) => image::image_to(&r, record),
         Err(refusal) => Err(refusal),
     }
 }
@@ -27,7 +27,7 @@ pub fn check(record: &[u8], side: Side) -> Result<(), Refusal>
     ensures { outcome_of result ≡ image_check «record».now side }
 {
     let r = imaged::record_from(record)?;
-    rules::check(r, side)
+    rules::check(side, &r)
 }
 
 #[tactic(auto, unfolding(crate::specs::ByImage::image_write))]
@@ -35,7 +35,7 @@ pub fn write(record: &[u8], out: &mut [u8]) -> Result<usize, Refusal>
     ensures { (outcome_of result, out.new) ≡ image_write «record».now out.old }
 {
     let r = imaged::record_from(record)?;
-    writer::write(r, out)
+    writer::write(&r, out)
 }
 
 #[tactic(auto, unfolding(crate::specs::ByImage::image_length))]
@@ -43,7 +43,7 @@ pub fn length(record: &[u8]) -> Result<usize, Refusal>
     ensures { outcome_of result ≡ image_length «record».now }
 {
     let r = imaged::record_from(record)?;
-    length::length(r)
+    length::length(&r)
 }
 
 #[tactic(auto, unfolding(crate::specs::ByImage::image_resume, crate::specs::ByImage::resume_from))]
@@ -52,7 +52,7 @@ pub fn validate_resumption_from(record: &[u8], cached: &[u8]) -> Result<(), Refu
 {
     let new = imaged::record_from(record)?;
     let old = imaged::record_from(cached)?;
-    resumption::validate_resumption_from(new, old)
+    resumption::validate_resumption_from(&new, &old)
 }
 
 // The IDs that packets carried, by their images; a flag says whether there was a Retry.
@@ -63,7 +63,8 @@ fn seen_from(
     retry_seen: bool,
     retry_src_cid: &[u8],
 ) -> Result<SeenConnectionIds, Refusal>
-    ensures { outcome_of result ≡ seen_from initial_src_cid.now original_dst_cid.now retry_seen retry_src_cid.now }
+    ensures { outcome_of result
+        ≡ seen_from initial_src_cid.now original_dst_cid.now retry_seen retry_src_cid.now }
 {
     let initial_src_cid = imaged::cid_from(initial_src_cid)?;
     let original_dst_cid = imaged::cid_from(original_dst_cid)?;
@@ -87,9 +88,11 @@ pub fn authenticate_cids(
     retry_seen: bool,
     retry_src_cid: &[u8],
 ) -> Result<(), Refusal>
-    ensures { outcome_of result ≡ image_authenticate side «record».now (seen_from initial_src_cid.now original_dst_cid.now retry_seen retry_src_cid.now) }
+    ensures { outcome_of result
+        ≡ image_authenticate side «record».now
+        (seen_from initial_src_cid.now original_dst_cid.now retry_seen retry_src_cid.now) }
 {
     let r = imaged::record_from(record)?;
     let seen = seen_from(initial_src_cid, original_dst_cid, retry_seen, retry_src_cid)?;
-    authentication::authenticate_cids(side, r, seen)
+    authentication::authenticate_cids(side, &r, &seen)
 }

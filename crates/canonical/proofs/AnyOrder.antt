@@ -1,4 +1,5 @@
--- Parameters at distinct places, in any order, for any catalogue: nothing here names a place. Assumes nothing.
+-- Parameters at distinct places, in any order, for any catalogue: nothing here names a place.
+-- Assumes nothing.
 --     ordered         distinct places: what is read is the values of these
 --     every_order     all places: what is read is all the values, in every order
 use Prim.Native.Nat.{ℕ, ◌≤◌, ◌<◌}

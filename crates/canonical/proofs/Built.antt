@@ -12,7 +12,7 @@ use Rattle.connection_id.specs.declared.ConnectionId.{ConnectionId}
 use Rattle.record.specs.declared.TransportParameters.{TransportParameters}
 use Rattle.writer.specs.Writing.{order_of, extension, write}
 use Rattle.building.specs.declared.Settings.{Settings}
-use Rattle.building.specs.Building.{order_from, build}
+use Rattle.building.specs.Building.{drawn_order, build}
 use Rattle.building.proofs.Theorems.{Sound, built_sound}
 
 module _ (s : Settings) (cid : ConnectionId) (draw : ℕ) (payload order : List ℕ) (r : TransportParameters) (h : build s cid draw payload order ≡ accepted r) where
@@ -20,7 +20,7 @@ module _ (s : Settings) (cid : ConnectionId) (draw : ℕ) (payload order : List 
   is_sound = built_sound s cid draw payload order r h
 
   in_its_order : order_of r.write_order ≡ order
-  unfolding order_of order_from
+  unfolding order_of drawn_order
   in_its_order = rw is_sound.order_kept
 
   pub built_written : (out : List ℕ) → write r out ≡ store (extension r order) out

@@ -1,6 +1,7 @@
--- Request 06: malformed, in three kinds. What reading and tidying refused with 1 they refuse with 10 (the cut), 12 (a second copy) or 11 (a value that
--- does not fit or fill its length, or an ID of over 20 bytes), and nothing else has changed. Where each is given. And what the kinds are for: to tell a
--- cut message from a wrong sender.
+-- Request 06: malformed, in three kinds. What reading and tidying refused with 1 they refuse with
+-- 10 (the cut), 12 (a second copy) or 11 (a value that does not fit or fill its length, or an ID of
+-- over 20 bytes), and nothing else has changed. Where each is given. And what the kinds are for: to
+-- tell a cut message from a wrong sender.
 use Rattle.std.specs.Prelude.{ℕ, ◌<◌, ◌≡◌, List, ◌∷◌, ◌++◌, ◌↔◌, ◌⊎◌, Bool, true, false, ◌||◌, eqb}
 use Rattle.refusal.specs.Outcome.{Result, Outcome, accepted, refused, pick, and_then}
 use Rattle.record.specs.declared.TransportParameters.{TransportParameters}
@@ -36,7 +37,8 @@ abbrev pub former : {A : Type 0} → Outcome A → Outcome A
 former (accepted a) = accepted a
 former (refused n) = refused (pick (is_kind n) 1 n)
 
--- where each is given: behind bytes in which nothing is at fault. What was received of them is l, and the rest is still to come
+-- where each is given: behind bytes in which nothing is at fault. What was received of them is l,
+-- and the rest is still to come
 pub record Reached (e rest : List ℕ) (l : Values) : Type 0 where
   pub before : List ℕ
   pub are : before ++ rest ≡ e
@@ -62,7 +64,8 @@ pub record CopyAt (e : List ℕ) : Type 0 where
   pub reached : Reached e (u ++ more) l
   pub these : reached.before ≡ a ++ (w ++ b)
 
--- a known parameter of which there was none, whose value does not fit; nor is it an address with neither family, which is 2
+-- a known parameter of which there was none, whose value does not fit; nor is it an address with
+-- neither family, which is 2
 pub record MisfitAt (e : List ℕ) : Type 0 where
   pub rest : List ℕ
   pub l : Values
@@ -77,7 +80,8 @@ pub record MisfitAt (e : List ℕ) : Type 0 where
   pub misfit : fits (kind_at (place_of id)) v ≡ false
 
 pub record ThreeKinds : Type 0 where
-  -- taken so, reading and tidying give what they gave before, for every input, and the buffer is the same
+  -- taken so, reading and tidying give what they gave before, for every input, and the buffer is
+  -- the same
   pub reads : (s : Side) (e : List ℕ) → former (read s e) ≡ former_read s e
   pub tidies : (s : Side) (e out : List ℕ) → (former (tidy s e out).0, (tidy s e out).1) ≡ former_tidy s e out
   -- one of the three is given exactly where 1 was
@@ -93,7 +97,8 @@ pub record ThreeKinds : Type 0 where
   pub wrong_stays : (s : Side) (e more : List ℕ) (n : ℕ) → (n ≡ 11) ⊎ (n ≡ 12) → read s e ≡ refused n → read s (e ++ more) ≡ refused n
   -- a cut message: what a side would accept, cut off within a parameter, is 10;
   pub cut_within : (s : Side) (e more : List ℕ) (r : TransportParameters) → read s (e ++ more) ≡ accepted r → (Composed e → ⊥) → read s e ≡ refused 10
-  -- cut off anywhere it is neither 11 nor 12: if it is refused, then with 10 or, where a value rule misses what was cut off, with 2;
+  -- cut off anywhere it is neither 11 nor 12: if it is refused, then with 10 or, where a value rule
+  -- misses what was cut off, with 2;
   pub cut_anywhere :
       (s : Side) (e more : List ℕ) (r : TransportParameters) (n : ℕ) → read s (e ++ more) ≡ accepted r → read s e ≡ refused n → (n ≡ 10) ⊎ (n ≡ 2)
   -- and whole parameters are never a cut

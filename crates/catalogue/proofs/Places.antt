@@ -1,6 +1,7 @@
 -- The laws of the tables. Assumes nothing.
 --     place_of_id, id_of_place    identifiers and places belong together
---     place_within                an identifier's place is one of the catalogue, or the number of them
+--     place_within                an identifier's place is one of the catalogue, or the number of
+--                                 them
 --     id_lt                       a number holds each identifier
 --     reserved_unknown            a reserved identifier has no place
 --     number_kind, default_lt     places 0 to 10 hold numbers, and their defaults are numbers

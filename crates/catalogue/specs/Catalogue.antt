@@ -1,5 +1,6 @@
--- The catalogue of transport parameters (RFC 9000 section 18.2, RFC 9221 section 3, RFC 9287 section 3, RFC 9368 section 3,
--- draft-ietf-quic-ack-frequency-08 section 3): identifier, kind and default by place, which values fit a kind, and a parameter on the wire (RFC 9000 section 18).
+-- The catalogue of transport parameters (RFC 9000 section 18.2, RFC 9221 section 3, RFC 9287
+-- section 3, RFC 9368 section 3, draft-ietf-quic-ack-frequency-08 section 3): identifier, kind and
+-- default by place, which values fit a kind, and a parameter on the wire (RFC 9000 section 18).
 use Rattle.std.specs.Prelude.{ℕ, suc, ◌+◌, ◌%◌, ◌^◌, List, [], ◌∷◌, ◌++◌, Bool, false, length, get_or, take, replicate, ltb, leb, eqb}
 use Rattle.std.proofs.Math.Option.{Option, none, some}
 use Rattle.refusal.specs.Outcome.{Outcome, accepted, refused, pick, all}
@@ -10,7 +11,8 @@ use Rattle.words.specs.Words.{zeros}
 abbrev pub places : ℕ
 places = 22
 
--- the identifier of each place. Place 11 is the reserved parameter's, which has none of its own: no number on the wire is 2 ^ 62
+-- the identifier of each place. Place 11 is the reserved parameter's, which has none of its own: no
+-- number on the wire is 2 ^ 62
 unfoldable pub ids : List ℕ
 ids =
     0x01 ∷ 0x03 ∷ 0x04 ∷ 0x05 ∷ 0x06 ∷ 0x07 ∷ 0x08 ∷ 0x09 ∷ 0x0a ∷ 0x0b ∷ 0x0e ∷ 2 ^ 62 ∷ 0x02 ∷ 0x0c ∷ 0x20 ∷ 0x0d ∷ 0x00 ∷ 0x0f ∷ 0x10
@@ -61,11 +63,13 @@ abbrev pub fills : ℕ → Outcome Decoded → Bool
 fills n (accepted a) = eqb a.count n
 fills n (refused e) = false
 
--- a preferred address: 4 and 2 bytes of one family, 16 and 2 of the other, a length byte, the connection ID, 16 bytes of token
+-- a preferred address: 4 and 2 bytes of one family, 16 and 2 of the other, a length byte, the
+-- connection ID, 16 bytes of token
 abbrev pub id_length : List ℕ → ℕ
 id_length v = get_or v 24 0
 
--- a value that uses exactly its bytes; of version information, a chosen version and at most 16 available ones, four bytes each
+-- a value that uses exactly its bytes; of version information, a chosen version and at most 16
+-- available ones, four bytes each
 unfoldable pub fits : Kind → List ℕ → Bool
 fits number v = fills (length v) (read_number v)
 fits flag v = eqb (length v) 0

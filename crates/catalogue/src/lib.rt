@@ -1,19 +1,20 @@
-// The catalogue of transport parameters, in the order of quinn's `SUPPORTED`: by place, their names, identifiers and defaults; and the place of an
-// identifier.
+// The catalogue of transport parameters, in the order of quinn's `SUPPORTED`: by place, their
+// names, identifiers and defaults; and the place of an identifier.
 #![tactic(auto)]
 
 ghost use Rattle.std.specs.Prelude.{◌≡◌};
 ghost use Rattle.catalogue.specs.Catalogue.{ids, defaults, place_of};
 
-// How many places the catalogue has; the first of them hold plain numbers.
+/// How many places the catalogue has; the first of them hold plain numbers.
 pub const PLACES: usize = 22;
 
 pub const NUMBERS: usize = 11;
 
-// No extension of a record is longer, in bytes.
+/// No extension of a record is longer, in bytes.
 pub const MAX_EXTENSION: usize = 385;
 
-// The places: numbers and no enum, since entries of orders, bits of marks and positions in arrays are these.
+/// The places: numbers and no enum, since entries of orders, bits of marks and positions in arrays
+/// are these.
 pub const MAX_IDLE_TIMEOUT: usize = 0;
 
 pub const MAX_UDP_PAYLOAD_SIZE: usize = 1;
@@ -58,7 +59,8 @@ pub const MIN_ACK_DELAY: usize = 20;
 
 pub const VERSION_INFORMATION: usize = 21;
 
-// The places of each kind that has more than one, a bit for each: one look at a bit tells several kinds from the others.
+/// The places of each kind that has more than one, a bit for each: one look at a bit tells several
+/// kinds from the others.
 pub const NUMBER_PLACES: u32 = ((1 << NUMBERS) - 1)
     | (1 << MAX_DATAGRAM_FRAME_SIZE)
     | (1 << MIN_ACK_DELAY);
@@ -67,13 +69,14 @@ pub const FLAG_PLACES: u32 = (1 << DISABLE_ACTIVE_MIGRATION) | (1 << GREASE_QUIC
 
 pub const CID_PLACES: u32 = (1 << ORIGINAL_DST_CID) | (1 << INITIAL_SRC_CID) | (1 << RETRY_SRC_CID);
 
-// Those of numbers, flags, IDs and the token.
+/// Those of numbers, flags, IDs and the token.
 pub const SIMPLE_PLACES: u32 = NUMBER_PLACES
     | FLAG_PLACES
     | CID_PLACES
     | (1 << STATELESS_RESET_TOKEN);
 
-// The names of the places. Names, identifiers and defaults are three tables and not one of rows: the defaults are fewer, and the definitions are lists.
+/// The names of the places. Names, identifiers and defaults are three tables and not one of rows:
+/// the defaults are fewer, and the definitions are lists.
 pub const NAMES: [&str; PLACES] = [
     "max_idle_timeout",
     "max_udp_payload_size",
@@ -99,7 +102,7 @@ pub const NAMES: [&str; PLACES] = [
     "version_information",
 ];
 
-// Their identifiers. The reserved parameter has none of its own: no number on the wire is 2^62.
+/// Their identifiers. The reserved parameter has none of its own: no number on the wire is 2^62.
 pub const IDS: [u64; PLACES] = [
     0x01,
     0x03,
@@ -125,7 +128,7 @@ pub const IDS: [u64; PLACES] = [
     0x11,
 ];
 
-// Those of the places that hold no plain number, by name.
+/// Those of the places that hold no plain number, by name.
 pub const STATELESS_RESET_TOKEN_ID: u64 = IDS[STATELESS_RESET_TOKEN];
 
 pub const DISABLE_ACTIVE_MIGRATION_ID: u64 = IDS[DISABLE_ACTIVE_MIGRATION];
@@ -146,10 +149,10 @@ pub const MIN_ACK_DELAY_ID: u64 = IDS[MIN_ACK_DELAY];
 
 pub const VERSION_INFORMATION_ID: u64 = IDS[VERSION_INFORMATION];
 
-// The defaults of the plain numbers.
+/// The defaults of the plain numbers.
 pub const DEFAULTS: [u64; NUMBERS] = [0, 65527, 0, 0, 0, 0, 0, 0, 3, 25, 2];
 
-// These say that two of the tables are those of the definitions; nothing calls them.
+/// These say that two of the tables are those of the definitions; nothing calls them.
 #[tactic(auto, unfolding(crate::specs::Catalogue::ids))]
 pub fn identifiers() -> [u64; PLACES]
     ensures { result ≡ ids }
@@ -164,8 +167,9 @@ pub fn default_numbers() -> [u64; NUMBERS]
     DEFAULTS
 }
 
-// The place of an identifier; `PLACES` if it is unknown, and no Option: a reader marks the place, which has a bit too, before it asks whether the
-// catalogue has it. Two matches and not one over all identifiers: they become tables, one becomes a jump.
+/// The place of an identifier; `PLACES` if it is unknown, and no Option: a reader marks the place,
+/// which has a bit too, before it asks whether the catalogue has it. Two matches and not one over
+/// all identifiers: they become tables, one becomes a jump.
 #[tactic(auto, unfolding(crate::specs::Catalogue::place_of, crate::specs::Catalogue::ids))]
 pub fn place_of(id: u64) -> usize
     ensures { result ≡ place_of id }

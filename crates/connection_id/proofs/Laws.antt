@@ -9,7 +9,8 @@
 --     same_exactly      two IDs are the same exactly if they are equal, well formed or not
 --     same_told         well-formed ones exactly if their bytes are
 --     cid_back          a written ID reads back, with any bytes behind it
---     cid_sound         an accepted ID is well formed, its count within the input, and its bytes the only form of it
+--     cid_sound         an accepted ID is well formed, its count within the input, and its bytes
+--                       the only form of it
 use Prim.Native.Nat.{ℕ, ◌+◌, ◌-◌, ◌≤◌}
 use mathlib.Core.Path.{◌≡◌, refl, ap, ap₂, sym, ◌∙◌}
 use mathlib.Core.Logic.{◌↔◌}

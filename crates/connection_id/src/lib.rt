@@ -1,4 +1,5 @@
-// Connection IDs, and their form behind a length byte (RFC 9000 section 17.2): `ConnectionId` of quinn's shared.rs.
+// Connection IDs, and their form behind a length byte (RFC 9000 section 17.2): `ConnectionId` of
+// quinn's shared.rs.
 #![tactic(auto)]
 
 ghost use Rattle.std.specs.Prelude.{◌≡◌, [], ◌≤◌, length};
@@ -8,20 +9,20 @@ ghost use Rattle.refusal.specs.Answer.{outcome_of};
 use refusal::Refusal;
 use words::zero_from;
 
-// Fixed memory: an array with a length, as in the Rust.
+/// Fixed memory: an array with a length, as in the Rust.
 #[derive(Clone, Copy, Debug, Default, PartialEq, Eq)]
 pub struct ConnectionId {
-    // how many bytes the ID has
+    /// how many bytes the ID has
     pub len: u8,
-    // the ID, then zeros
+    /// the ID, then zeros
     pub bytes: [u8; 20],
 }
 
 impl ConnectionId {
-    // The longest ID, in bytes.
+    /// The longest ID, in bytes.
     pub const MAX_SIZE: usize = 20;
 
-    // The ID of no bytes.
+    /// The ID of no bytes.
     #[tactic(auto, using(crate::proofs::Defaults::cid_default))]
     pub fn empty() -> ConnectionId
         ensures { result ≡ cid_of [] }
@@ -29,7 +30,7 @@ impl ConnectionId {
         ConnectionId::default()
     }
 
-    // The ID of these bytes, of which there are at most 20.
+    /// The ID of these bytes, of which there are at most 20.
     #[tactic(auto, using(std::proofs::lemmas::Bool::Decides::nat_tests), unfolding(crate::specs::ConnectionId::make_cid))]
     pub fn new(bytes: &[u8]) -> Result<ConnectionId, Refusal>
         ensures { outcome_of result ≡ make_cid bytes.now }
@@ -40,7 +41,7 @@ impl ConnectionId {
         Ok(cid_of(bytes))
     }
 
-    // At most 20 bytes, and zeros after them.
+    /// At most 20 bytes, and zeros after them.
     #[tactic(auto, using(std::proofs::lemmas::Bool::Decides::nat_tests), unfolding(refusal::specs::Outcome::all, crate::specs::ConnectionId::formed_cid))]
     pub fn is_well_formed(self) -> bool
         ensures { result ≡ formed_cid self }
@@ -49,7 +50,8 @@ impl ConnectionId {
         n <= ConnectionId::MAX_SIZE && zero_from(&self.bytes, n)
     }
 
-    // Whether two IDs are the same, well formed or not: `==`, with a promise in the definitions' terms.
+    /// Whether two IDs are the same, well formed or not: `==`, with a promise in the definitions'
+    /// terms.
     #[tactic(auto, unfolding(crate::specs::ConnectionId::same_cid))]
     pub fn equals(self, other: ConnectionId) -> bool
         ensures { result ≡ same_cid self other }
@@ -57,7 +59,7 @@ impl ConnectionId {
         self == other
     }
 
-    // The ID behind the length byte at the front of `src`.
+    /// The ID behind the length byte at the front of `src`.
     #[tactic(auto, using(crate::proofs::Answers::read_none, crate::proofs::Answers::read_long, crate::proofs::Answers::read_short, crate::proofs::Answers::read_whole))]
     pub fn decode_long(src: &[u8]) -> Result<(ConnectionId, usize), Refusal>
         ensures { outcome_of result ≡ read_cid src.now }
@@ -76,7 +78,7 @@ impl ConnectionId {
         Ok((cid_of(&src[1..end]), end))
     }
 
-    // Writes the length byte and the ID to the front of `out`.
+    /// Writes the length byte and the ID to the front of `out`.
     #[tactic(auto, using(crate::proofs::Laws::formed_within, crate::proofs::Answers::write_ill, crate::proofs::Answers::write_short, crate::proofs::Answers::write_whole))]
     pub fn encode_long(self, out: &mut [u8]) -> Result<usize, Refusal>
         ensures { (outcome_of result, out.new) ≡ write_cid self out.old }

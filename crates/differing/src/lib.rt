@@ -15,7 +15,8 @@ use words::bytes_at;
 
 type CidImage = [u8; CID_SIZE];
 
-// The images of the IDs that packets carried, under the names of the parameters that are held to them; none without a Retry.
+/// The images of the IDs that packets carried, under the names of the parameters that are held to
+/// them; none without a Retry.
 #[derive(Clone, Copy)]
 pub struct SeenImages {
     pub initial_src_cid: CidImage,
@@ -64,7 +65,7 @@ fn note_id(out: &mut Out, place: usize, has: Option<CidImage>, seen: Option<CidI
     }
 }
 
-// The IDs of a record, of those that a side looks at, that are not the ones seen.
+/// The IDs of a record, of those that a side looks at, that are not the ones seen.
 #[tactic(auto, using(text::proofs::Printing::unchanged, text::proofs::Printing::becomes_then))]
 pub fn note_differing(out: &mut Out, side: Side, record: &[u8], seen: &SeenImages)
     ensures { Becomes Stream.Error out.old.fate out.new.fate }
@@ -76,7 +77,7 @@ pub fn note_differing(out: &mut Out, side: Side, record: &[u8], seen: &SeenImage
     }
 }
 
-// The IDs seen that are too long.
+/// The IDs seen that are too long.
 #[tactic(auto, using(text::proofs::Printing::unchanged, text::proofs::Printing::becomes_then))]
 pub fn note_too_long(out: &mut Out, seen: &SeenImages)
     ensures { Becomes Stream.Error out.old.fate out.new.fate }

@@ -1,6 +1,8 @@
--- The worked examples (a) to (n), some lengths, second copies, other orders, faults of an order, datagram sizes, kinds of fault, the handshakes of RFC 9000
--- section 7.3, some reports and version information: for each a side, an operation, its input and the outcome. The definitions are those that the contracts of reading, tidying, writing, the length,
--- the report, the first fault of an order, resumption and the connection ID check cite.
+-- The worked examples (a) to (n), some lengths, second copies, other orders, faults of an order,
+-- datagram sizes, kinds of fault, the handshakes of RFC 9000 section 7.3, some reports and version
+-- information: for each a side, an operation, its input and the outcome. The definitions are those
+-- that the contracts of reading, tidying, writing, the length, the report, the first fault of an
+-- order, resumption and the connection ID check cite.
 use Rattle.std.specs.Prelude.{ℕ, ◌+◌, ◌-◌, ◌≡◌, List, [], ◌∷◌, ◌++◌, Bool, true, false, length, replicate, take}
 use Rattle.std.proofs.Math.Option.{Option, none, some}
 use Rattle.refusal.specs.Outcome.{Outcome, accepted, refused, and_then}
@@ -65,7 +67,8 @@ Each (x ∷ xs) = Holds x × Each xs
 abbrev pub goes : ℕ → ℕ → ℕ → ℕ → ℕ → Counts
 goes a b c d n = record { tidied = a; skipped = b; restated = c; saved = d; named = n }
 
--- a record with these numbers, original_dst_cid empty or absent, grease_quic_bit, min_ack_delay, version information and order, and nothing else
+-- a record with these numbers, original_dst_cid empty or absent, grease_quic_bit, min_ack_delay,
+-- version information and order, and nothing else
 unfoldable pub with : List ℕ → Bool → Bool → OptionalNumber → VersionInformation → WriteOrder → TransportParameters
 with numbers original grease delay versions order =
     record {
@@ -113,14 +116,16 @@ reversed =
 abbrev pub nowhere : WriteOrder
 nowhere = record { present = true; places = replicate 22 0 }
 
--- min_ack_delay of a byte; a preferred address, with families of this byte, an ID of n bytes and so many left over
+-- min_ack_delay of a byte; a preferred address, with families of this byte, an ID of n bytes and so
+-- many left over
 abbrev pub delayed : ℕ → List ℕ
 delayed x = 0xc0 ∷ 0x00 ∷ 0x00 ∷ 0x00 ∷ 0xff ∷ 0x04 ∷ 0xde ∷ 0x1b ∷ 0x01 ∷ x ∷ []
 
 abbrev pub addressed : ℕ → ℕ → ℕ → List ℕ
 addressed x n left = 0x0d ∷ (41 + n + left) ∷ (replicate 24 x ++ (n ∷ replicate (n + 16 + left) 0xbb))
 
--- the parameter of (b), an unknown one whose identifier and length are longer than needed, and grease_quic_bit
+-- the parameter of (b), an unknown one whose identifier and length are longer than needed, and
+-- grease_quic_bit
 abbrev pub idle : List ℕ
 idle = 0x01 ∷ 0x04 ∷ 0x80 ∷ 0x00 ∷ 0x75 ∷ 0x30 ∷ []
 
@@ -130,7 +135,8 @@ unknown = 0x40 ∷ 0x1b ∷ 0x40 ∷ 0x01 ∷ 0xaa ∷ []
 abbrev pub grease : List ℕ
 grease = 0x6a ∷ 0xb2 ∷ 0x00 ∷ []
 
--- the IDs of RFC 9000 section 7.3: C1 of the client, S1 its choice for the server, S2 of the Retry, S3 of the server
+-- the IDs of RFC 9000 section 7.3: C1 of the client, S1 its choice for the server, S2 of the Retry,
+-- S3 of the server
 abbrev pub c1 : List ℕ
 c1 = replicate 8 0xc1
 
@@ -147,7 +153,8 @@ s3 = replicate 8 0xd3
 abbrev pub says : ℕ → List ℕ → List ℕ
 says id v = id ∷ length v ∷ v
 
--- versions on the wire, and version information with a chosen version and available ones: version_information is 0x11
+-- versions on the wire, and version information with a chosen version and available ones:
+-- version_information is 0x11
 abbrev pub v1 : List ℕ
 v1 = 0x00 ∷ 0x00 ∷ 0x00 ∷ 0x01 ∷ []
 

@@ -1,4 +1,5 @@
-// Says what a refusal means and what is at fault: of an extension which parameter, at which byte it starts, and why; of an order which entry.
+// Says what a refusal means and what is at fault: of an extension which parameter, at which byte it
+// starts, and why; of an order which entry.
 #![tactic(auto)]
 
 ghost use Rattle.text.specs.declared.out.Stream.{Stream};
@@ -19,7 +20,8 @@ use value::Received;
 use varint::VarInt;
 use version_information::VersionInformation;
 
-// The parameter at fault: where it starts, its identifier and its value if it can be read, and what is wrong.
+// The parameter at fault: where it starts, its identifier and its value if it can be read, and what
+// is wrong.
 #[derive(Clone, Copy)]
 struct Culprit<'a> {
     at: usize,
@@ -52,8 +54,9 @@ fn receive(met: u32, place: usize, value: &[u8]) -> Result<(), Fault> {
     Ok(())
 }
 
-// The culprit of an extension that is refused: the first fault from the front, as reading finds it. If there is none, a value rule is broken:
-// by the first parameter that breaks one by itself, or else by min_ack_delay, which is held to max_ack_delay.
+// The culprit of an extension that is refused: the first fault from the front, as reading finds it.
+// If there is none, a value rule is broken: by the first parameter that breaks one by itself, or
+// else by min_ack_delay, which is held to max_ack_delay.
 fn locate(side: Side, src: &[u8]) -> Option<Culprit<'_>> {
     let mut met: u32 = 0;
     let mut breaker: Option<Culprit<'_>> = None;
@@ -183,7 +186,7 @@ fn note_cut(out: &mut Out, rest: &[u8])
     out.note(format_args!("cut off within its value, {left} of {len}\n"));
 }
 
-// A refusal of reading, and its cause.
+/// A refusal of reading, and its cause.
 #[tactic(auto, using(text::proofs::Printing::unchanged, text::proofs::Printing::becomes_then))]
 pub fn note_reading(out: &mut Out, side: Side, r: Refusal, src: &[u8])
     ensures { Becomes Stream.Error out.old.fate out.new.fate }
@@ -202,7 +205,8 @@ pub fn note_reading(out: &mut Out, side: Side, r: Refusal, src: &[u8])
     note_cause(out, side, c);
 }
 
-// The cause alone, of a record's extension. If the extension is accepted, no value rule is broken: then a family that is given is all zero.
+/// The cause alone, of a record's extension. If the extension is accepted, no value rule is broken:
+/// then a family that is given is all zero.
 #[tactic(auto, using(text::proofs::Printing::unchanged, text::proofs::Printing::becomes_then))]
 pub fn note_culprit(out: &mut Out, side: Side, src: &[u8])
     ensures { Becomes Stream.Error out.old.fate out.new.fate }
@@ -214,7 +218,7 @@ pub fn note_culprit(out: &mut Out, side: Side, src: &[u8])
     }
 }
 
-// The first fault of an order: its position and, unless entries are only missing, the entry there.
+/// The first fault of an order: its position and, unless entries are only missing, the entry there.
 #[tactic(auto, using(text::proofs::Printing::unchanged, text::proofs::Printing::becomes_then))]
 pub fn note_order_fault(out: &mut Out, order: &[u8])
     ensures { Becomes Stream.Error out.old.fate out.new.fate }

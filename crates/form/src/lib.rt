@@ -1,4 +1,5 @@
-// The text form of a record: lines of a name and a value. It becomes the image of the record, line by line, or a line is found that is amiss.
+// The text form of a record: lines of a name and a value. It becomes the image of the record, line
+// by line, or a line is found that is amiss.
 #![tactic(auto)]
 
 ghost use Rattle.std.specs.Prelude.{◌≡◌, ◌<◌, IfErr};
@@ -18,7 +19,7 @@ use text::{
 };
 use version_information::VersionInformation;
 
-// What may be amiss in a line.
+/// What may be amiss in a line.
 #[derive(Clone, Copy, Debug, PartialEq, Eq)]
 pub enum Complaint {
     Name,
@@ -52,7 +53,7 @@ impl Display for Complaint {
     }
 }
 
-// What is amiss, and in which line; the lines count from 1.
+/// What is amiss, and in which line; the lines count from 1.
 #[derive(Clone, Copy, Debug, PartialEq, Eq)]
 pub struct Slip {
     pub line: usize,
@@ -96,7 +97,7 @@ fn put_counted(digits: &[u8], out: &mut [u8], at: usize, room: usize) -> Result<
     Ok(())
 }
 
-// The image of the connection ID that a word says.
+/// The image of the connection ID that a word says.
 #[tactic(auto, using(crate::proofs::Words::said, crate::proofs::Words::not_said), unfolding(crate::specs::Ids::cid_said))]
 pub fn cid_image_of(digits: &[u8]) -> Result<[u8; CID_SIZE], Complaint>
     ensures { result ≡ cid_said digits.now }
@@ -128,7 +129,8 @@ fn put_version(word: &[u8], out: &mut [u8], at: usize) -> Result<(), Complaint> 
     put_hex_number(digits, out, at).ok_or(Complaint::Version)
 }
 
-// What read shows beside the versions and is ignored: their names; behind the chosen one what stands before the available ones, or in their place.
+// What read shows beside the versions and is ignored: their names; behind the chosen one what
+// stands before the available ones, or in their place.
 fn is_remark(word: &[u8], count: usize) -> bool {
     match word {
         [b'(', ..] => 0 < count,
@@ -173,7 +175,8 @@ fn is_flag(value: &[u8]) -> bool {
     matches!(value, b"" | b"set" | b"present")
 }
 
-// How many words a line may have: what stands behind a number is ignored, and versions are counted as they are stored.
+// How many words a line may have: what stands behind a number is ignored, and versions are counted
+// as they are stored.
 fn most_words(row: Row) -> usize {
     match row.0 {
         Kind::Token | Kind::AddressToken | Kind::ConnectionId | Kind::AddressId => 2,
@@ -261,12 +264,12 @@ fn put_lines(text: &[u8], out: &mut [u8]) -> Result<(), Slip>
     Ok(())
 }
 
-// The image of the record that a text says, if each line is understood.
+/// The image of the record that a text says, if each line is understood.
 pub fn image_of(text: &[u8]) -> Result<[u8; RECORD_SIZE], Slip>
     ensures { IfErr result (λ slip. 0 < slip.line) }
 {
     let mut out = [0u8; RECORD_SIZE];
-    let _ = image::image_to(TransportParameters::default(), &mut out);
+    let _ = image::image_to(&TransportParameters::default(), &mut out);
     put_lines(text, &mut out)?;
     Ok(out)
 }

@@ -1,4 +1,5 @@
--- Laws of the parameter at the front of some bytes: no other file knows the wire form of its head. Assumes nothing.
+-- Laws of the parameter at the front of some bytes: no other file knows the wire form of its head.
+-- Assumes nothing.
 --     not_cut           a number that was not cut off was read
 --     only_cut          what is not whole is a cut
 --     front_append      bytes behind change nothing

@@ -1,5 +1,5 @@
--- The parameter at a position: what the code's tests mean for it, and that it is the parameter at the front of the bytes from there on. Assumes
--- nothing.
+-- The parameter at a position: what the code's tests mean for it, and that it is the parameter at
+-- the front of the bytes from there on. Assumes nothing.
 --     located_front    located and read_parameter agree
 --     within           its value lies within the bytes, behind the position
 use Prim.Native.Nat.{ℕ, ◌+◌, ◌-◌, ◌/◌, ◌%◌, ◌≤◌, ◌<◌}
@@ -130,7 +130,8 @@ located_front s at = go (read_number (drop at s))
     go (accepted i) = rw (← drop-drop i.count at s) (one i (read_number (drop i.count (drop at s))))
     go (refused e) = refl
 
--- its value lies within the bytes, behind the position, and behind as many bytes as shorter forms would have saved
+-- its value lies within the bytes, behind the position, and behind as many bytes as shorter forms
+-- would have saved
 pub record Within (s : List ℕ) (at : ℕ) (p : Parameter) : Type 0 where
   pub behind : at < p.start
   pub start : p.start ≤ p.end

@@ -1,5 +1,5 @@
--- The parameter at the front of some bytes (RFC 9000 section 18): identifier, length, and a value of that length. Whatever can't be read whole
--- is a cut.
+-- The parameter at the front of some bytes (RFC 9000 section 18): identifier, length, and a value
+-- of that length. Whatever can't be read whole is a cut.
 use Rattle.std.specs.Prelude.{ℕ, ◌+◌, ◌-◌, List, length, take, drop, leb}
 use Rattle.refusal.specs.Outcome.{Result, accepted, refused, Outcome, pick, and_then}
 use Rattle.varint.specs.Number.{read_number}
@@ -35,8 +35,8 @@ read_parameter bs =
     (accepted (i.value, take l.value (drop l.count (drop i.count bs)), drop l.value (drop l.count (drop i.count bs))))
     (refused Cut)
 
--- the same of the bytes from a position on: its identifier, where its value starts and ends, and what shorter forms of identifier and length
--- would have saved
+-- the same of the bytes from a position on: its identifier, where its value starts and ends, and
+-- what shorter forms of identifier and length would have saved
 unfoldable pub located : List ℕ → ℕ → Result Fault Parameter
 located s at =
     and_then (or_cut (read_number (drop at s))) λ i.

@@ -27,7 +27,8 @@ abbrev pub Wholes : List (List ℕ) → Type 0
 Wholes [] = Unit {0}
 Wholes (w ∷ ws) = Whole w × Wholes ws
 
--- the parameters that bytes are made of, from the front up to what cannot be read; each has a byte at least
+-- the parameters that bytes are made of, from the front up to what cannot be read; each has a byte
+-- at least
 abbrev pub and_rest : List ℕ → (List ℕ → List (List ℕ)) → Result Fault (ℕ × List ℕ × List ℕ) → List (List ℕ)
 and_rest bs rest (accepted i) = take (length bs - length i.2) bs ∷ rest i.2
 and_rest bs rest (refused f) = []
@@ -45,7 +46,8 @@ pub record Composed (e : List ℕ) : Type 0 where
   pub is : concat ws ≡ e
   pub each : Wholes ws
 
--- bytes, and the same with unknown whole parameters put in anywhere: before, between or behind those of e
+-- bytes, and the same with unknown whole parameters put in anywhere: before, between or behind
+-- those of e
 pub record Stuffed (e e' : List ℕ) : Type 0 where
   pub ws : List (List ℕ)
   pub ws' : List (List ℕ)
@@ -53,15 +55,17 @@ pub record Stuffed (e e' : List ℕ) : Type 0 where
   pub is' : concat ws' ≡ e'
   pub put : Inserted ws ws'
 
--- bytes that are whole parameters, and the same ones in another order. `Perm` is the kit's rearrangement of a list: the rest rearranged behind the
--- same first one, the first two exchanged, or one rearrangement after another; so the same elements, each as often
+-- bytes that are whole parameters, and the same ones in another order. `Perm` is the kit's
+-- rearrangement of a list: the rest rearranged behind the same first one, the first two exchanged,
+-- or one rearrangement after another; so the same elements, each as often
 pub record Rearranged (e e' : List ℕ) : Type 0 where
   pub composed : Composed e
   pub ws' : List (List ℕ)
   pub is' : concat ws' ≡ e'
   pub moved : Perm composed.ws ws'
 
--- whole parameters a, then w, then b; and a second copy u of w, which is a known one. Its value may be any
+-- whole parameters a, then w, then b; and a second copy u of w, which is a known one. Its value may
+-- be any
 pub record Repeated (a w b u : List ℕ) : Type 0 where
   pub before : Composed a
   pub first : Whole w

@@ -1,4 +1,5 @@
-// The parameter at the front of some bytes: identifier, length and value (RFC 9000 section 18); and what can be wrong with a parameter.
+// The parameter at the front of some bytes: identifier, length and value (RFC 9000 section 18); and
+// what can be wrong with a parameter.
 #![tactic(auto)]
 
 ghost use Rattle.std.specs.Prelude.{◌≡◌, ◌≤◌, ◌-◌, length};
@@ -10,16 +11,16 @@ ghost use Rattle.front.specs.Walk.{Steps};
 use refusal::Refusal;
 use varint::VarInt;
 
-// What can be wrong with a parameter.
+/// What can be wrong with a parameter.
 #[derive(Clone, Copy, Debug, PartialEq, Eq)]
 pub enum Fault {
-    // an identifier or length that cannot be read, or a length beyond what is left
+    /// an identifier or length that cannot be read, or a length beyond what is left
     Cut,
-    // a second copy of a known parameter
+    /// a second copy of a known parameter
     SecondCopy,
-    // a value that does not fit or fill its length, or a connection ID of over 20 bytes
+    /// a value that does not fit or fill its length, or a connection ID of over 20 bytes
     Misfit,
-    // a value that is not allowed
+    /// a value that is not allowed
     Illegal,
 }
 
@@ -37,8 +38,8 @@ impl From<Fault> for Refusal {
     }
 }
 
-// A parameter of an extension: its identifier, where its value starts and ends, and how many bytes the shortest forms of identifier and length would
-// have saved.
+/// A parameter of an extension: its identifier, where its value starts and ends, and how many bytes
+/// the shortest forms of identifier and length would have saved.
 #[derive(Clone, Copy, Debug, PartialEq, Eq)]
 pub struct Parameter {
     pub id: u64,
@@ -47,8 +48,9 @@ pub struct Parameter {
     pub saved: usize,
 }
 
-// The parameter at a position. An identifier and a length of one byte each stand apart: most are. `COUNTED` changes nothing that is given: whoever
-// leaves out what shorter forms would have saved has a copy of its own, in which it costs nothing, and whoever counts it has another.
+/// The parameter at a position. An identifier and a length of one byte each stand apart: most are.
+/// `COUNTED` changes nothing that is given: whoever leaves out what shorter forms would have saved
+/// has a copy of its own, in which it costs nothing, and whoever counts it has another.
 #[tactic(auto, using(crate::proofs::Position::none_there, crate::proofs::Position::short_whole, crate::proofs::Position::short_beyond))]
 pub fn parameter_at<const COUNTED: bool>(src: &[u8], at: usize) -> Result<Parameter, Fault>
     ensures { fault_outcome result ≡ located src.now at }
@@ -102,7 +104,8 @@ fn any_parameter_at<const COUNTED: bool>(src: &[u8], at: usize) -> Result<Parame
     })
 }
 
-// The parameters of the bytes from a position on, each with where it starts; the last is the first that cannot be read. `COUNTED` as above.
+/// The parameters of the bytes from a position on, each with where it starts; the last is the first
+/// that cannot be read. `COUNTED` as above.
 #[derive(Drop)]
 pub struct Parameters<'a, const COUNTED: bool> {
     pub src: &'a [u8],

@@ -18,33 +18,34 @@ use Rattle.words.proofs.Big.{length_bytes_of}
 use Rattle.version_information.specs.VersionInformation.{all_bytes}
 use Rattle.record.specs.declared.TransportParameters.{TransportParameters}
 use Rattle.record.specs.Record.{least}
-use Rattle.image.specs.Image.{joined, flag_byte, eight_bytes, numbers_image, front_parts, id_parts, address_parts, rest_parts, versions_parts, parts, image_of}
+use Rattle.image.specs.Image.{joined_parts, flag_byte, eight_bytes, numbers_image, front_parts, id_parts, address_parts, rest_parts, versions_parts, parts, image_of}
 use Rattle.words.specs.Words.{numbers_bytes}
 use Rattle.words.proofs.Stores.{stored_then}
 use Rattle.words.proofs.Numbers.{numbers_size, numbers_more}
 
--- PARTS, one after another: a byte; a part; a byte and what stands behind it; several parts; the last ones
+-- PARTS, one after another: a byte; a part; a byte and what stands behind it; several parts; the
+-- last ones
 pub data Laid : List ℕ → ℕ → List (List ℕ) → List ℕ → Type 0 where
   byte : {out ys : List ℕ} {at b x : ℕ} {ps : List (List ℕ)} → b ≡ x → Laid (set out at b) (at + 1) ps ys → Laid out at ((x ∷ []) ∷ ps) ys
   put : {out m ys p : List ℕ} {at k : ℕ} {ps : List (List ℕ)} → m ≡ sets out at p → at + length p ≡ k → Laid m k ps ys → Laid out at (p ∷ ps) ys
   behind : {out m ys p q : List ℕ} {at k b x : ℕ} {ps : List (List ℕ)} → m ≡ sets out at (b ∷ q) → b ≡ x → q ≡ p → at + length (x ∷ p) ≡ k → Laid m k ps ys
       → Laid out at ((x ∷ []) ∷ p ∷ ps) ys
-  group : {out m ys : List ℕ} {at k : ℕ} {ps : List (List ℕ)} (qs : List (List ℕ)) → m ≡ sets out at (joined qs) → at + length (joined qs) ≡ k → Laid m k ps ys
+  group : {out m ys : List ℕ} {at k : ℕ} {ps : List (List ℕ)} (qs : List (List ℕ)) → m ≡ sets out at (joined_parts qs) → at + length (joined_parts qs) ≡ k → Laid m k ps ys
       → Laid out at (qs ++ ps) ys
-  last : {out ys : List ℕ} {at : ℕ} {ps : List (List ℕ)} → ys ≡ sets out at (joined ps) → Laid out at ps ys
+  last : {out ys : List ℕ} {at : ℕ} {ps : List (List ℕ)} → ys ≡ sets out at (joined_parts ps) → Laid out at ps ys
 
-joined_append : (ps qs : List (List ℕ)) → joined (ps ++ qs) ≡ joined ps ++ joined qs
-joined_append [] qs = refl
-joined_append (p ∷ ps) qs = rw (joined_append ps qs) (sym (append_assoc p (joined ps) (joined qs)))
+joined_parts_append : (ps qs : List (List ℕ)) → joined_parts (ps ++ qs) ≡ joined_parts ps ++ joined_parts qs
+joined_parts_append [] qs = refl
+joined_parts_append (p ∷ ps) qs = rw (joined_parts_append ps qs) (sym (append_assoc p (joined_parts ps) (joined_parts qs)))
 
-pub laid : (out : List ℕ) (at : ℕ) (ps : List (List ℕ)) {ys : List ℕ} → Laid out at ps ys → ys ≡ sets out at (joined ps)
+pub laid : (out : List ℕ) (at : ℕ) (ps : List (List ℕ)) {ys : List ℕ} → Laid out at ps ys → ys ≡ sets out at (joined_parts ps)
 laid out at _ (byte {ys = ys} {b = b} {x = x} {ps = ps} e l) =
-    stored_then out (set out at b) ys (x ∷ []) (joined ps) at (at + 1) (ap (set out at) e) refl (laid (set out at b) (at + 1) ps l)
-laid out at _ (put {m = m} {ys = ys} {p = p} {k = k} {ps = ps} e n l) = stored_then out m ys p (joined ps) at k e n (laid m k ps l)
+    stored_then out (set out at b) ys (x ∷ []) (joined_parts ps) at (at + 1) (ap (set out at) e) refl (laid (set out at b) (at + 1) ps l)
+laid out at _ (put {m = m} {ys = ys} {p = p} {k = k} {ps = ps} e n l) = stored_then out m ys p (joined_parts ps) at k e n (laid m k ps l)
 laid out at _ (behind {m = m} {ys = ys} {p = p} {k = k} {x = x} {ps = ps} e f g n l) =
-    stored_then out m ys (x ∷ p) (joined ps) at k (e ∙ ap₂ (λ (y : ℕ) (t : List ℕ). sets out at (y ∷ t)) f g) n (laid m k ps l)
+    stored_then out m ys (x ∷ p) (joined_parts ps) at k (e ∙ ap₂ (λ (y : ℕ) (t : List ℕ). sets out at (y ∷ t)) f g) n (laid m k ps l)
 laid out at _ (group {m = m} {ys = ys} {k = k} {ps = ps} qs e n l) =
-    stored_then out m ys (joined qs) (joined ps) at k e n (laid m k ps l) ∙ ap (sets out at) (sym (joined_append qs ps))
+    stored_then out m ys (joined_parts qs) (joined_parts ps) at k e n (laid m k ps l) ∙ ap (sets out at) (sym (joined_parts_append qs ps))
 laid out at ps (last e) = e
 
 -- nothing more
@@ -61,9 +62,9 @@ abbrev pub sum : List ℕ → ℕ
 sum [] = 0
 sum (n ∷ ns) = n + sum ns
 
-pub joined_size : (ps : List (List ℕ)) → length (joined ps) ≡ sum (map length ps)
-joined_size [] = refl
-joined_size (p ∷ ps) = length-append p (joined ps) ∙ ap (λ n. length p + n) (joined_size ps)
+pub joined_parts_size : (ps : List (List ℕ)) → length (joined_parts ps) ≡ sum (map length ps)
+joined_parts_size [] = refl
+joined_parts_size (p ∷ ps) = length-append p (joined_parts ps) ∙ ap (λ n. length p + n) (joined_parts_size ps)
 
 pub eight : (x : ℕ) → length (eight_bytes x) ≡ 8
 unfolding eight_bytes
@@ -112,7 +113,8 @@ pub record Sized (r : TransportParameters) : Type 0 where
   pub order : length r.write_order.places ≡ 22
   pub versions : length r.version_information.available ≡ 16
 
--- up to the connection IDs, up to the address, the address, the reserved parameter and the order, and version information
+-- up to the connection IDs, up to the address, the address, the reserved parameter and the order,
+-- and version information
 abbrev front_sizes : List ℕ
 front_sizes = 88 ∷ 1 ∷ 1 ∷ 1 ∷ 8 ∷ 1 ∷ 8 ∷ []
 
@@ -132,8 +134,8 @@ abbrev pub sizes : List ℕ
 sizes = front_sizes ++ (id_sizes ++ (address_sizes ++ (rest_sizes ++ versions_sizes)))
 
 -- parts of these sizes, how long they are
-long : (ps : List (List ℕ)) (ns : List ℕ) → map length ps ≡ ns → length (joined ps) ≡ sum ns
-long ps ns e = joined_size ps ∙ ap sum e
+long : (ps : List (List ℕ)) (ns : List ℕ) → map length ps ≡ ns → length (joined_parts ps) ≡ sum ns
+long ps ns e = joined_parts_size ps ∙ ap sum e
 
 module _ (r : TransportParameters) (z : Sized r) where
   front : map length (front_parts r) ≡ front_sizes
@@ -167,9 +169,9 @@ module _ (r : TransportParameters) (z : Sized r) where
   unfolding image_of
   image_size = long (parts r) sizes parts_sizes
 
-  pub record_stored : (out m1 m2 m3 m4 ys : List ℕ) → m1 ≡ sets out 0 (joined (front_parts r)) → m2 ≡ sets m1 108 (joined (id_parts r))
-      → m3 ≡ sets m2 191 (joined (address_parts r.preferred_address)) → m4 ≡ sets m3 255 (joined (rest_parts r))
-      → ys ≡ sets m4 304 (joined (versions_parts r.version_information)) → ys ≡ sets out 0 (image_of r)
+  pub record_stored : (out m1 m2 m3 m4 ys : List ℕ) → m1 ≡ sets out 0 (joined_parts (front_parts r)) → m2 ≡ sets m1 108 (joined_parts (id_parts r))
+      → m3 ≡ sets m2 191 (joined_parts (address_parts r.preferred_address)) → m4 ≡ sets m3 255 (joined_parts (rest_parts r))
+      → ys ≡ sets m4 304 (joined_parts (versions_parts r.version_information)) → ys ≡ sets out 0 (image_of r)
   unfolding image_of parts
   record_stored out m1 m2 m3 m4 ys e1 e2 e3 e4 e5 =
       laid out 0 (parts r)

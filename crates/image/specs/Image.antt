@@ -1,5 +1,6 @@
--- The images of records and connection IDs, in 374 and 21 bytes: the form in which the C interface passes them. Numbers have the high
--- byte first, a flag is 0 or 1, and what is absent is all zero. First what an image is made of, then what stands at its places.
+-- The images of records and connection IDs, in 374 and 21 bytes: the form in which the C interface
+-- passes them. Numbers have the high byte first, a flag is 0 or 1, and what is absent is all zero.
+-- First what an image is made of, then what stands at its places.
 use Rattle.std.specs.Prelude.{ℕ, ◌+◌, List, [], ◌∷◌, ◌++◌, Bool, ◌||◌, length, get_or, take, drop, leb, eqb}
 use Rattle.refusal.specs.Outcome.{Outcome, accepted, refused, pick, all}
 use Rattle.words.specs.Words.{every, value_from, bytes_of, numbers_bytes, numbers_of}
@@ -21,9 +22,9 @@ abbrev pub cid_size : ℕ
 cid_size = 21
 
 -- THE IMAGE: parts, one after another
-abbrev pub joined : List (List ℕ) → List ℕ
-joined [] = []
-joined (p ∷ ps) = p ++ joined ps
+abbrev pub joined_parts : List (List ℕ) → List ℕ
+joined_parts [] = []
+joined_parts (p ∷ ps) = p ++ joined_parts ps
 
 abbrev pub flag_byte : Bool → ℕ
 flag_byte b = pick b 1 0
@@ -69,14 +70,16 @@ address_parts a =
     ∷ (family_parts (of_v4 a.address_v4)
     ++ (family_parts (of_v6 a.address_v6) ++ (cid_parts a.connection_id ++ (a.stateless_reset_token.bytes ∷ []))))
 
--- the reserved parameter: the flag, the identifier, the length of the payload, the payload; then the order
+-- the reserved parameter: the flag, the identifier, the length of the payload, the payload; then
+-- the order
 unfoldable pub rest_parts : TransportParameters → List (List ℕ)
 rest_parts r =
     flag r.grease_transport_parameter.present ∷ eight_bytes r.grease_transport_parameter.id
     ∷ (r.grease_transport_parameter.payload_len ∷ []) ∷ r.grease_transport_parameter.payload
     ∷ flag r.write_order.present ∷ r.write_order.places ∷ []
 
--- version information: the flag, how many versions are available, the chosen one, all sixteen places of the others
+-- version information: the flag, how many versions are available, the chosen one, all sixteen
+-- places of the others
 unfoldable pub versions_parts : VersionInformation → List (List ℕ)
 versions_parts i = flag i.present ∷ (i.available_len ∷ []) ∷ all_bytes i ∷ []
 
@@ -84,7 +87,7 @@ unfoldable pub parts : TransportParameters → List (List ℕ)
 parts r = front_parts r ++ (id_parts r ++ (address_parts r.preferred_address ++ (rest_parts r ++ versions_parts r.version_information)))
 
 unfoldable pub image_of : TransportParameters → List ℕ
-image_of r = joined (parts r)
+image_of r = joined_parts (parts r)
 
 abbrev pub cid_image : ConnectionId → List ℕ
 cid_image c = c.len ∷ c.bytes
@@ -140,8 +143,8 @@ record_at s =
       write_order = record { present = flag_at 281 s; places = part 282 22 s };
     }
 
--- IMAGES: 374 bytes, flags that are 0 or 1, and 0 for a number that is absent. Whatever else stands there is the record's, well formed
--- or not
+-- IMAGES: 374 bytes, flags that are 0 or 1, and 0 for a number that is absent. Whatever else stands
+-- there is the record's, well formed or not
 unfoldable pub flag_places : List ℕ
 flag_places = 88 ∷ 89 ∷ 90 ∷ 99 ∷ 108 ∷ 130 ∷ 152 ∷ 174 ∷ 191 ∷ 192 ∷ 199 ∷ 255 ∷ 281 ∷ 304 ∷ []
 

@@ -1,4 +1,5 @@
-// The images of records and connection IDs, in 374 and 21 bytes: the form in which the C interface passes them. Crate imaged reads them.
+// The images of records and connection IDs, in 374 and 21 bytes: the form in which the C interface
+// passes them. Crate imaged reads them.
 #![tactic(auto)]
 
 ghost use Rattle.std.specs.Prelude.{◌≡◌, ◌∷◌, ◌+◌, ◌≤◌, length};
@@ -6,7 +7,7 @@ ghost use Rattle.std.proofs.lemmas.List.Edits.{sets};
 ghost use Rattle.refusal.specs.Answer.{outcome_of};
 ghost use Rattle.refusal.specs.Outcome.{store};
 ghost use Rattle.record.specs.Values.{of_address};
-ghost use Rattle.image.specs.Image.{numbers_image, cid_image, optional_parts, optional_cid_parts, family_parts, address_parts, joined, front_parts, id_parts, rest_parts, versions_parts, image_of};
+ghost use Rattle.image.specs.Image.{numbers_image, cid_image, optional_parts, optional_cid_parts, family_parts, address_parts, joined_parts, front_parts, id_parts, rest_parts, versions_parts, image_of};
 
 use catalogue::NUMBERS;
 use connection_id::ConnectionId;
@@ -14,29 +15,30 @@ use record::{Optional, PreferredAddress, SocketAddr, TransportParameters};
 use refusal::Refusal;
 use version_information::VersionInformation;
 
-// The sizes of the images, in bytes.
+/// The sizes of the images, in bytes.
 pub const RECORD_SIZE: usize = 374;
 
 pub const CID_SIZE: usize = 21;
 
-// STORING AN IMAGE, at a place where there is room. Arrays are passed by value: so the compiler knows that none lies in `out`. `at` and `out` stand apart, as
-// in crate imaged: a struct of both would be made at each call.
-fn put_bytes<const N: usize>(bytes: [u8; N], at: usize, out: &mut [u8])
+// STORING AN IMAGE, at a place where there is room. Arrays are passed by value: so the compiler
+// knows that none lies in `out`. `at` and `out` stand apart, as in crate imaged: a struct of both
+// would be made at each call.
+fn put_array<const N: usize>(bytes: [u8; N], at: usize, out: &mut [u8])
     requires { at + N ≤ length out.old }
     ensures { out.new ≡ sets out.old at bytes.entry }
 {
     out[at..at + N].copy_from_slice(&bytes);
 }
 
-// Stores a byte, a flag or a length, and what stands behind it. Here and below the size of what is stored is told too: a caller sees no length of an array,
-// and would have to show it each time.
+// Stores a byte, a flag or a length, and what stands behind it. Here and below the size of what is
+// stored is told too: a caller sees no length of an array, and would have to show it each time.
 fn put_behind<const N: usize>(first: u8, bytes: [u8; N], at: usize, out: &mut [u8])
     requires { at + 1 + N ≤ length out.old }
     ensures stored { out.new ≡ sets out.old at (first ∷ bytes.entry) }
     ensures size { length bytes.entry ≡ N }
 {
     out[at] = first;
-    put_bytes(bytes, at + 1, out);
+    put_array(bytes, at + 1, out);
 }
 
 #[tactic(auto, using(crate::proofs::Stores::numbers_stored, crate::proofs::Stores::eighty_eight), unfolding(crate::specs::Image::eight_bytes, words::specs::Words::numbers_bytes))]
@@ -45,15 +47,15 @@ fn put_numbers(numbers: &[u64; NUMBERS], out: &mut [u8; RECORD_SIZE])
     ensures size { length (numbers_image numbers.now) ≡ 88 }
 {
     for (i, x) in numbers.iter().enumerate() {
-        put_bytes(x.to_be_bytes(), i * 8, out);
+        put_array(x.to_be_bytes(), i * 8, out);
     }
 }
 
-#[tactic(auto, using(crate::proofs::Stores::behind, crate::proofs::Stores::done, crate::proofs::Stores::laid, crate::proofs::Stores::flag_stored, crate::proofs::Stores::joined_size, crate::proofs::Stores::eight), unfolding(crate::specs::Image::eight_bytes))]
+#[tactic(auto, using(crate::proofs::Stores::behind, crate::proofs::Stores::done, crate::proofs::Stores::laid, crate::proofs::Stores::flag_stored, crate::proofs::Stores::joined_parts_size, crate::proofs::Stores::eight), unfolding(crate::specs::Image::eight_bytes))]
 fn put_optional(o: Option<u64>, at: usize, out: &mut [u8])
     requires { at + 9 ≤ length out.old }
-    ensures stored { out.new ≡ sets out.old at (joined (optional_parts o)) }
-    ensures size { length (joined (optional_parts o)) ≡ 9 }
+    ensures stored { out.new ≡ sets out.old at (joined_parts (optional_parts o)) }
+    ensures size { length (joined_parts (optional_parts o)) ≡ 9 }
 {
     let bytes = o.unwrap_or(0).to_be_bytes();
     put_behind(u8::from(o.is_some()), bytes, at, out);
@@ -69,27 +71,27 @@ fn put_cid(c: &ConnectionId, at: usize, out: &mut [u8])
 
 fn put_optional_cid(o: &Optional<ConnectionId>, at: usize, out: &mut [u8])
     requires { at + 22 ≤ length out.old }
-    ensures stored { out.new ≡ sets out.old at (joined (optional_cid_parts o.now)) }
-    ensures size { length (joined (optional_cid_parts o.now)) ≡ 22 }
+    ensures stored { out.new ≡ sets out.old at (joined_parts (optional_cid_parts o.now)) }
+    ensures size { length (joined_parts (optional_cid_parts o.now)) ≡ 22 }
 {
     out[at] = u8::from(o.present);
     put_cid(&o.value, at + 1, out);
 }
 
-#[tactic(auto, using(crate::proofs::Stores::joined_size))]
+#[tactic(auto, using(crate::proofs::Stores::joined_parts_size))]
 fn put_family<const N: usize>(a: &SocketAddr<N>, at: usize, out: &mut [u8])
     requires { at + 3 + N ≤ length out.old }
-    ensures stored { out.new ≡ sets out.old at (joined (family_parts (of_address a.now))) }
-    ensures size { length (joined (family_parts (of_address a.now))) ≡ N + 3 }
+    ensures stored { out.new ≡ sets out.old at (joined_parts (family_parts (of_address a.now))) }
+    ensures size { length (joined_parts (family_parts (of_address a.now))) ≡ N + 3 }
 {
     put_behind(u8::from(a.present), a.ip, at, out);
-    put_bytes(a.port.to_be_bytes(), at + 1 + N, out);
+    put_array(a.port.to_be_bytes(), at + 1 + N, out);
 }
 
-// The parts of a record's image: up to the connection IDs, up to the address, the address, the reserved parameter and the order, and
-// version information.
+// The parts of a record's image: up to the connection IDs, up to the address, the address, the
+// reserved parameter and the order, and version information.
 fn put_front(r: &TransportParameters, out: &mut [u8; RECORD_SIZE])
-    ensures { out.new ≡ sets out.old 0 (joined (front_parts r.now)) }
+    ensures { out.new ≡ sets out.old 0 (joined_parts (front_parts r.now)) }
 {
     put_numbers(&r.numbers, out);
     out[88] = u8::from(r.disable_active_migration);
@@ -99,7 +101,7 @@ fn put_front(r: &TransportParameters, out: &mut [u8; RECORD_SIZE])
 }
 
 fn put_ids(r: &TransportParameters, out: &mut [u8; RECORD_SIZE])
-    ensures { out.new ≡ sets out.old 108 (joined (id_parts r.now)) }
+    ensures { out.new ≡ sets out.old 108 (joined_parts (id_parts r.now)) }
 {
     let token = &r.stateless_reset_token;
     put_optional_cid(&r.original_dst_cid, 108, out);
@@ -109,17 +111,17 @@ fn put_ids(r: &TransportParameters, out: &mut [u8; RECORD_SIZE])
 }
 
 fn put_address(a: &PreferredAddress, out: &mut [u8; RECORD_SIZE])
-    ensures { out.new ≡ sets out.old 191 (joined (address_parts a.now)) }
+    ensures { out.new ≡ sets out.old 191 (joined_parts (address_parts a.now)) }
 {
     out[191] = u8::from(a.present);
     put_family(&a.address_v4, 192, out);
     put_family(&a.address_v6, 199, out);
     put_cid(&a.connection_id, 218, out);
-    put_bytes(a.stateless_reset_token.bytes, 239, out);
+    put_array(a.stateless_reset_token.bytes, 239, out);
 }
 
 fn put_rest(r: &TransportParameters, out: &mut [u8; RECORD_SIZE])
-    ensures { out.new ≡ sets out.old 255 (joined (rest_parts r.now)) }
+    ensures { out.new ≡ sets out.old 255 (joined_parts (rest_parts r.now)) }
 {
     let reserved = &r.grease_transport_parameter;
     let order = &r.write_order;
@@ -134,29 +136,29 @@ fn put_rest(r: &TransportParameters, out: &mut [u8; RECORD_SIZE])
 }
 
 fn put_versions(v: &VersionInformation, out: &mut [u8; RECORD_SIZE])
-    ensures { out.new ≡ sets out.old 304 (joined (versions_parts v.now)) }
+    ensures { out.new ≡ sets out.old 304 (joined_parts (versions_parts v.now)) }
 {
     out[304] = u8::from(v.present);
     put_behind(v.available_len, v.to_bytes(), 305, out);
 }
 
-// Stores the image of a record at the front of `out`.
+/// Stores the image of a record at the front of `out`.
 #[tactic(auto, using(crate::proofs::Stores::image_size, crate::proofs::Stores::no_room))]
-pub fn image_to(r: TransportParameters, out: &mut [u8]) -> Result<usize, Refusal>
-    ensures { (outcome_of result, out.new) ≡ store (image_of r) out.old }
+pub fn image_to(r: &TransportParameters, out: &mut [u8]) -> Result<usize, Refusal>
+    ensures { (outcome_of result, out.new) ≡ store (image_of r.now) out.old }
 {
     let Some(image) = out.first_chunk_mut() else {
         return Err(Refusal::BufferTooShort);
     };
-    put_front(&r, image);
-    put_ids(&r, image);
+    put_front(r, image);
+    put_ids(r, image);
     put_address(&r.preferred_address, image);
-    put_rest(&r, image);
+    put_rest(r, image);
     put_versions(&r.version_information, image);
     Ok(RECORD_SIZE)
 }
 
-// Stores the image of a connection ID at the front of `out`.
+/// Stores the image of a connection ID at the front of `out`.
 #[tactic(auto, using(crate::proofs::Stores::no_room, crate::proofs::Stores::room))]
 pub fn cid_to(c: ConnectionId, out: &mut [u8]) -> Result<usize, Refusal>
     ensures { (outcome_of result, out.new) ≡ store (cid_image c) out.old }

@@ -29,7 +29,7 @@ use Rattle.std.specs.Prelude.{None, Some}
 use Rattle.record.specs.Optional.{OptionalConnectionId}
 use Rattle.record.specs.Values.{Family, of_v4, of_v6}
 use Rattle.record.specs.Record.{is_present, least, well_formed, formed_optional, formed_optional_cid, formed_token, formed_optional_token, formed_family, formed_address, formed_reserved, formed_order}
-use Rattle.image.specs.Image.{part, flag_at, flag_byte, eight_bytes, numbers_at, optional_at, cid_image, cid_at, optional_cid_at, address_at, joined, front_parts, id_parts, address_parts, rest_parts, versions_parts, parts, image_of, record_at, flag_places, flags_hold, zero_if_absent, is_image, record_from, cid_from}
+use Rattle.image.specs.Image.{part, flag_at, flag_byte, eight_bytes, numbers_at, optional_at, cid_image, cid_at, optional_cid_at, address_at, joined_parts, front_parts, id_parts, address_parts, rest_parts, versions_parts, parts, image_of, record_at, flag_places, flags_hold, zero_if_absent, is_image, record_from, cid_from}
 use Rattle.image.proofs.Stores.{sizes, Sized, parts_sizes, image_size}
 
 -- A PART, by its number: where it begins, and that it stands there
@@ -38,10 +38,10 @@ before zero ns = 0
 before (suc k) [] = 0
 before (suc k) (n ∷ ns) = n + before k ns
 
-from_part : (ps : List (List ℕ)) (k : ℕ) → k < length ps → drop (before k (map length ps)) (joined ps) ≡ get_or ps k [] ++ joined (drop (suc k) ps)
+from_part : (ps : List (List ℕ)) (k : ℕ) → k < length ps → drop (before k (map length ps)) (joined_parts ps) ≡ get_or ps k [] ++ joined_parts (drop (suc k) ps)
 from_part [] k h = absurd (omega arith)
 from_part (p ∷ ps) zero h = refl
-from_part (p ∷ ps) (suc k) h = drop-append-add p (joined ps) (before k (map length ps)) ∙ from_part ps k (omega arith)
+from_part (p ∷ ps) (suc k) h = drop-append-add p (joined_parts ps) (before k (map length ps)) ∙ from_part ps k (omega arith)
 
 -- the flag that stands as a byte
 flag_back : (b : Bool) → eqb (flag_byte b) 1 ≡ b
@@ -137,7 +137,7 @@ module _ (r : TransportParameters) (h : well_formed r ≡ true) where
   unfolding parts front_parts id_parts address_parts rest_parts versions_parts
   count = refl
 
-  from : (k : ℕ) → T (ltb k 37) → drop (before k sizes) (image_of r) ≡ get_or (parts r) k [] ++ joined (drop (suc k) (parts r))
+  from : (k : ℕ) → T (ltb k 37) → drop (before k sizes) (image_of r) ≡ get_or (parts r) k [] ++ joined_parts (drop (suc k) (parts r))
   unfolding image_of
   from k t =
       let l : k < 37 = lit< t in
@@ -146,9 +146,9 @@ module _ (r : TransportParameters) (h : well_formed r ≡ true) where
   field : (k : ℕ) → T (ltb k 37) → part (before k sizes) (get_or sizes k 0) (image_of r) ≡ get_or (parts r) k []
   field k t =
       let n : length (get_or (parts r) k []) ≡ get_or sizes k 0 = sym (get_or-map length (parts r) k []) ∙ ap (λ ns. get_or ns k 0) (parts_sizes r sized) in
-      rw (from k t) (take_at (get_or (parts r) k []) (joined (drop (suc k) (parts r))) (get_or sizes k 0) n)
+      rw (from k t) (take_at (get_or (parts r) k []) (joined_parts (drop (suc k) (parts r))) (get_or sizes k 0) n)
 
-  byte : (k : ℕ) → T (ltb k 37) → get_or (image_of r) (before k sizes) 0 ≡ get_or (get_or (parts r) k [] ++ joined (drop (suc k) (parts r))) 0 0
+  byte : (k : ℕ) → T (ltb k 37) → get_or (image_of r) (before k sizes) 0 ≡ get_or (get_or (parts r) k [] ++ joined_parts (drop (suc k) (parts r))) 0 0
   byte k t = ap (λ i. get_or (image_of r) i 0) (sym (add-zero (before k sizes))) ∙ sym (get_or-drop (before k sizes) (image_of r) 0 0) ∙ ap (λ l. get_or l 0 0) (from k t)
 
   numbers_back : numbers_at 11 0 (image_of r) ≡ r.numbers
@@ -156,7 +156,7 @@ module _ (r : TransportParameters) (h : well_formed r ≡ true) where
   numbers_back =
       ap (λ n. numbers_at n 0 (image_of r)) (sym sized.numbers)
       ∙ ap (numbers_of 8 (length r.numbers)) (from 0 tt)
-      ∙ numbers_whole 8 r.numbers (joined (drop 1 (parts r))) (below r.numbers (all_at _ h 1))
+      ∙ numbers_whole 8 r.numbers (joined_parts (drop 1 (parts r))) (below r.numbers (all_at _ h 1))
 
   versions_back : versions_with (flag_at 304 (image_of r)) (get_or (image_of r) 305 0) (part 306 68 (image_of r)) ≡ r.version_information
   unfolding well_formed parts front_parts id_parts address_parts rest_parts versions_parts

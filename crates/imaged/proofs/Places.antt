@@ -18,7 +18,7 @@ use Rattle.words.proofs.Laws.{or_below}
 use Rattle.std.proofs.lemmas.Bool.Decides.{nat_tests}
 use Rattle.image.specs.Image.{flag_places, flags_hold, is_image}
 
--- FLAGS: those met are joined in acc, and the rest stand from the i-th place on
+-- FLAGS: those met are joined_parts in acc, and the rest stand from the i-th place on
 or_flags : (a b : ℕ) → leb (bit_or a b) 1 ≡ (leb a 1 && leb b 1)
 or_flags a b = grind (arith, nat_tests, or_below 1 a b)
 

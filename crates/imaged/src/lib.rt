@@ -22,7 +22,8 @@ const FLAGS: [usize; 14] = [
     88, 89, 90, 99, 108, 130, 152, 174, 191, 192, 199, 255, 281, 304,
 ];
 
-// Bytes at a place, as an array. Here and below `s` and `at` stand apart: images are of two sizes, and a struct of both would be made at each call.
+// Bytes at a place, as an array. Here and below `s` and `at` stand apart: images are of two sizes,
+// and a struct of both would be made at each call.
 fn bytes_at<const N: usize>(s: &[u8], at: usize) -> [u8; N]
     requires { at + N ≤ length s.now }
     ensures { result ≡ part at N s.now }
@@ -30,7 +31,8 @@ fn bytes_at<const N: usize>(s: &[u8], at: usize) -> [u8; N]
     s[at..at + N].try_into().unwrap()
 }
 
-// Numbers have the high byte first. They and ports are two functions: from_be_bytes is no method of a trait.
+// Numbers have the high byte first. They and ports are two functions: from_be_bytes is no method of
+// a trait.
 fn number_at(s: &[u8], at: usize) -> u64
     requires { at + 8 ≤ length s.now }
     ensures { result ≡ number_at at 8 s.now }
@@ -104,7 +106,8 @@ fn token_at(s: &[u8], at: usize) -> ResetToken
 
 fn family_at<const N: usize>(s: &[u8], at: usize) -> SocketAddr<N>
     requires { at + N + 3 ≤ length s.now }
-    ensures { of_address result ≡ (flag_at at s.now, part (at + 1) N s.now, number_at (at + 1 + N) 2 s.now) }
+    ensures { of_address result
+        ≡ (flag_at at s.now, part (at + 1) N s.now, number_at (at + 1 + N) 2 s.now) }
 {
     SocketAddr {
         present: flag_at(s, at),
@@ -191,7 +194,7 @@ fn is_image(s: &[u8; RECORD_SIZE]) -> bool
     flags_hold(s) & zero_if_absent(s, 90) & zero_if_absent(s, 99)
 }
 
-// The record of an image. What is carried over need not be well formed.
+/// The record of an image. What is carried over need not be well formed.
 #[tactic(auto, using(crate::proofs::Places::image_long), unfolding(image::specs::Image::record_from))]
 pub fn record_from(image: &[u8]) -> Result<TransportParameters, Refusal>
     ensures { outcome_of result ≡ record_from image.now }
@@ -205,7 +208,7 @@ pub fn record_from(image: &[u8]) -> Result<TransportParameters, Refusal>
     Ok(record_at(image))
 }
 
-// The connection ID of an image. It need not be well formed.
+/// The connection ID of an image. It need not be well formed.
 #[tactic(auto, unfolding(image::specs::Image::cid_from))]
 pub fn cid_from(image: &[u8]) -> Result<ConnectionId, Refusal>
     ensures { outcome_of result ≡ cid_from image.now }

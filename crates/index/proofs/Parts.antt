@@ -1,5 +1,6 @@
 -- The parts of what is kept, as the definitions have them. Assumes nothing.
---     none_outside, none_number, none_unmet, of_bytes, there    where a value stands, and where there is none
+--     none_outside, none_number, none_unmet, of_bytes, there    where a value stands, and where
+--       there is none
 --     versions_fit       version information that was met fits
 --     address_long       a preferred address that was met has a connection ID's length
 use Prim.Native.Nat.{ℕ, ◌+◌, ◌≤◌, ◌<◌}

@@ -1,7 +1,8 @@
 -- Laws of one turn of the scan. Assumes nothing.
 --     value_lent    the value of a parameter, lent with what is behind it
 --     known         a place that is not the number of places is one of them
---     stop, cut_off, passed, faulty, taken     the end; a broken parameter; an unknown one; a value refused; a value received
+--     stop, cut_off, passed, faulty, taken     the end; a broken parameter; an unknown one; a value
+--       refused; a value received
 use Prim.Native.Nat.{ℕ, zero, suc, ◌-◌, ◌≤◌, ◌<◌}
 use mathlib.Core.Path.{◌≡◌, refl, ap, sym, ◌∙◌, fun_ext}
 use mathlib.Core.List.{List}

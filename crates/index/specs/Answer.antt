@@ -20,6 +20,6 @@ index_outcome found (Ok k) = accepted (found k)
 index_outcome found (Err f) = refused f
 
 -- a value that may be missing
-abbrev pub given : Maybe (List ℕ) → Option (List ℕ)
-given None = none
-given (Some v) = some v
+abbrev pub option_of : Maybe (List ℕ) → Option (List ℕ)
+option_of None = none
+option_of (Some v) = some v

@@ -1,4 +1,5 @@
--- What is kept of an extension: marks of the places met; by place, the number or where the value starts; and the value's length.
+-- What is kept of an extension: marks of the places met; by place, the number or where the value
+-- starts; and the value's length.
 use Rattle.std.specs.Prelude.{ℕ, zero, suc, ◌+◌, ◌-◌, ◌%◌, ◌^◌, ◌<◌, ◌≤◌, List, [], ◌∷◌, ◌++◌, ◌≡◌, Bool, true, false, ◌&&◌, length, get_or, take, drop, set, replicate, ltb}
 use Rattle.std.specs.Prelude.{None, Some}
 use Rattle.std.proofs.Math.Option.{Option, none, some}
@@ -33,8 +34,8 @@ nothing = (0, initial_kept, replicate places 0)
 unfoldable pub keep : Found → ℕ → ℕ → ℕ → Found
 keep f p x n = (mark f.0 p, set f.1 p x, set f.2 p (n % 256))
 
--- a parameter: its identifier, where its value starts, and the value. An unknown one is skipped; what a shorter form would have saved is left to
--- the counts
+-- a parameter: its identifier, where its value starts, and the value. An unknown one is skipped;
+-- what a shorter form would have saved is left to the counts
 unfoldable pub note : Found → ℕ → ℕ → List ℕ → Result Fault Found
 note f id a v =
     pick (ltb (place_of id) places)
@@ -74,8 +75,8 @@ unfoldable pub value_of : List ℕ → Found → ℕ → Option (List ℕ)
 value_of s f p = pick (ltb p places && holds_bytes (kind_at p)) (value_at s f p) none
 
 -- the number at one that holds a number
-abbrev pub optional_at : Found → ℕ → OptionalNumber
-optional_at f p = pick (marked f.0 p) (Some (get_or f.1 p 0)) None
+abbrev pub number_received : Found → ℕ → OptionalNumber
+number_received f p = pick (marked f.0 p) (Some (get_or f.1 p 0)) None
 
 -- the length of the preferred address's connection ID, 0 if there is no address
 unfoldable pub id_len : List ℕ → Found → ℕ
@@ -99,8 +100,8 @@ indexed side s = and_then (index_from s 0 nothing) λ f. pick (kept_rules side s
 unfoldable pub counted : Side → List ℕ → Result Fault (ℕ × Sums)
 counted side s = and_then (indexed side s) λ f. accepted (f.0, dropped (counts (parameters s)))
 
--- what is kept of an extension in which no parameter is at fault: only places of the catalogue are marked, and the values that are no numbers lie
--- within it, and fit
+-- what is kept of an extension in which no parameter is at fault: only places of the catalogue are
+-- marked, and the values that are no numbers lie within it, and fit
 pub record Sound (s : List ℕ) (f : Found) : Type 0 where
   pub marks : f.0 < 2 ^ places
   pub long : length f.1 ≡ places

@@ -1,5 +1,5 @@
-// Going through an extension for a side: which places it names, the numbers that it holds, and where its other values stand. Reading makes the
-// record of this, and tidying the shortest form.
+// Going through an extension for a side: which places it names, the numbers that it holds, and
+// where its other values stand. Reading makes the record of this, and tidying the shortest form.
 #![tactic(auto)]
 
 ghost use Rattle.std.specs.Prelude.{◌≡◌, option_copied, IfOk};
@@ -10,8 +10,8 @@ ghost use Rattle.front.specs.Answer.{fault_outcome};
 ghost use Rattle.tally.specs.Tally.{counts, dropped};
 ghost use Rattle.record.specs.Values.{versions_in};
 ghost use Rattle.rules.specs.Rules.{is_server, version_rules};
-ghost use Rattle.index.specs.Index.{nothing, index_from, id_len, kept_rules, indexed, counted, value_at, value_of, optional_at, Sound};
-ghost use Rattle.index.specs.Answer.{found_of, scan_outcome, index_outcome, given};
+ghost use Rattle.index.specs.Index.{nothing, index_from, id_len, kept_rules, indexed, counted, value_at, value_of, number_received, Sound};
+ghost use Rattle.index.specs.Answer.{found_of, scan_outcome, index_outcome, option_of};
 
 use catalogue::{
     DEFAULTS, MIN_ACK_DELAY, NUMBER_PLACES, NUMBERS, ORIGINAL_DST_CID, PLACES, PREFERRED_ADDRESS,
@@ -24,9 +24,10 @@ use tally::{Sums, restates};
 use value::Received;
 use version_information::VersionInformation;
 
-// What is found in an extension: the marks of the places met; and what is kept, by place: the number, or where the value starts; and the value's
-// length. Without a value a number is the default, and everything else 0. The two are no array of structs: nearly twice as long, it takes reading
-// 73 instructions more.
+/// What is found in an extension: the marks of the places met; and what is kept, by place: the
+/// number, or where the value starts; and the value's length. Without a value a number is the
+/// default, and everything else 0. The two are no array of structs: nearly twice as long, it takes
+/// reading 73 instructions more.
 #[derive(Clone, Copy)]
 pub struct Entries {
     pub marks: u32,
@@ -34,7 +35,8 @@ pub struct Entries {
     pub lens: [u8; PLACES],
 }
 
-// Before anything is received. Written out: copied into an array of zeros, the defaults take reading 100 instructions more.
+// Before anything is received. Written out: copied into an array of zeros, the defaults take
+// reading 100 instructions more.
 const INITIAL: [u64; PLACES] = [
     DEFAULTS[0],
     DEFAULTS[1],
@@ -77,7 +79,8 @@ impl Entries {
         is_marked(self.marks, place)
     }
 
-    // The numbers of places 0 to 10. By `copy_from_slice` the arrays would be kept in memory: 100 instructions more in reading.
+    /// The numbers of places 0 to 10. By `copy_from_slice` the arrays would be kept in memory: 100
+    /// instructions more in reading.
     pub fn numbers(&self) -> [u64; NUMBERS]
         ensures { result ≡ elements 11 0 self.now.kept }
     {
@@ -88,16 +91,17 @@ impl Entries {
         ]
     }
 
-    // The number received at a place.
+    /// The number received at a place.
     pub fn number(&self, place: usize) -> Option<u64>
-        ensures { result ≡ optional_at (found_of self.now) place }
+        ensures { result ≡ number_received (found_of self.now) place }
     {
         let x = self.kept.get(place).copied().unwrap_or(0);
         self.is_met(place).then_some(x)
     }
 
-    // Goes through the parameters, and adds up what tidying drops of them. A mark is looked up and set before it is asked whether the place is one of the
-    // catalogue: asked first, the compiler takes the arrays apart. Where the sums are left out, as `COUNTED` says, they cost nothing.
+    // Goes through the parameters, and adds up what tidying drops of them. A mark is looked up and
+    // set before it is asked whether the place is one of the catalogue: asked first, the compiler
+    // takes the arrays apart. Where the sums are left out, as `COUNTED` says, they cost nothing.
     #[tactic(auto, using(crate::proofs::Turn::known))]
     fn scan<const COUNTED: bool>(&mut self, src: &[u8]) -> Result<Sums, Fault>
         ensures found { scan_outcome result self.new ≡ index_from src.now 0 (found_of self.old) }
@@ -142,7 +146,8 @@ impl Entries {
     }
 }
 
-// What is kept of an extension in which no parameter is at fault, and the extension: the values lie within it, and fit.
+/// What is kept of an extension in which no parameter is at fault, and the extension: the values
+/// lie within it, and fit.
 #[derive(Clone, Copy)]
 pub struct Kept<'a> {
     pub entries: Entries,
@@ -151,9 +156,10 @@ pub struct Kept<'a> {
 }
 
 impl<'a> Kept<'a> {
-    // The value received at a place; none at one that holds a number.
+    /// The value received at a place; none at one that holds a number.
     pub fn value(&self, place: usize) -> Option<&'a [u8]>
-        ensures { given (option_copied result) ≡ value_of self.now.src.now (found_of self.now.entries) place }
+        ensures { option_of (option_copied result)
+            ≡ value_of self.now.src.now (found_of self.now.entries) place }
     {
         if PLACES <= place {
             return None;
@@ -180,7 +186,7 @@ impl<'a> Kept<'a> {
         }
     }
 
-    // The version information received; absent if there was none.
+    /// The version information received; absent if there was none.
     #[inline(always)]
     pub fn versions(&self) -> VersionInformation
         ensures { result ≡ versions_in (value_at self.now.src.now (found_of self.now.entries) 21) }
@@ -193,7 +199,9 @@ impl<'a> Kept<'a> {
 
     // Whether those of version information do: they do without any, and then none is made.
     fn are_versions_allowed(&self, side: Side) -> bool
-        ensures { result ≡ version_rules (is_server side) (versions_in (value_at self.now.src.now (found_of self.now.entries) 21)) }
+        ensures { result
+            ≡ version_rules (is_server side)
+            (versions_in (value_at self.now.src.now (found_of self.now.entries) 21)) }
     {
         if !self.entries.is_met(VERSION_INFORMATION) {
             return true;
@@ -229,13 +237,14 @@ impl<'a> Kept<'a> {
     }
 }
 
-// Goes through an extension for a side: the first fault from the front, then the value rules.
+/// Goes through an extension for a side: the first fault from the front, then the value rules.
 #[tactic(auto, using(crate::proofs::Settled::illegal, crate::proofs::Settled::allowed))]
 pub fn index<'a>(side: Side, src: &'a [u8]) -> Result<Kept<'a>, Fault>
     ensures found { index_outcome (λ kept. found_of kept.entries) result ≡ indexed side src.now }
     ensures lent { IfOk result (λ kept. kept.src.now ≡ src.now) }
 {
-    // Made before the scan: made behind it, the compiler takes the arrays apart, and reading a typical extension takes 23 instructions more.
+    // Made before the scan: made behind it, the compiler takes the arrays apart, and reading a
+    // typical extension takes 23 instructions more.
     let mut kept = Kept {
         entries: Entries::empty(),
         src,
@@ -247,7 +256,8 @@ pub fn index<'a>(side: Side, src: &'a [u8]) -> Result<Kept<'a>, Fault>
     Ok(kept)
 }
 
-// The same for a report: the marks of the places met, and what tidying drops. No part of what is kept: reading would take a sixth longer.
+/// The same for a report: the marks of the places met, and what tidying drops. No part of what is
+/// kept: reading would take a sixth longer.
 #[tactic(auto, using(crate::proofs::Settled::not_counted, crate::proofs::Settled::counted_lem, crate::proofs::Settled::illegal))]
 pub fn counted(side: Side, src: &[u8]) -> Result<(u32, Sums), Fault>
     ensures { fault_outcome result ≡ counted side src.now }

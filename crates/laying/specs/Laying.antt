@@ -16,8 +16,8 @@ number_rest due id x = pick (due && (ltb x bound && ltb id bound)) (replicate (8
 unfoldable pub laid_number : Bool → ℕ → ℕ → List ℕ → ℕ × List ℕ
 laid_number due id x out = lay 17 (due_number due id x) (number_rest due id x) out
 
--- the first n bytes of a field of 8 to 63 bytes as a value, if it is due, with the rest of the field behind it; of no other field, and of no
--- more bytes than it has, nothing
+-- the first n bytes of a field of 8 to 63 bytes as a value, if it is due, with the rest of the
+-- field behind it; of no other field, and of no more bytes than it has, nothing
 unfoldable pub laid_field : Bool → ℕ → ℕ → List ℕ → List ℕ → ℕ × List ℕ
 laid_field due id n v out =
     pick (leb 8 (length v) && (ltb (length v) 64 && leb n (length v)))

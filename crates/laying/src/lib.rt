@@ -1,5 +1,6 @@
-// Parameters laid at the front of a buffer with room to spare: others that do not count are stored behind each, as zeros where the buffer is zeros.
-// So a number is stored without a branch on its width, and a field whole. Each gives the parameter's byte count, or stores nothing and gives 0,
+// Parameters laid at the front of a buffer with room to spare: others that do not count are stored
+// behind each, as zeros where the buffer is zeros. So a number is stored without a branch on its
+// width, and a field whole. Each gives the parameter's byte count, or stores nothing and gives 0,
 // as the writers of crate wire do, and `due` stands beside the value for the reason given there.
 #![tactic(auto)]
 
@@ -35,7 +36,8 @@ fn wide_form(tag: u32, x: u64) -> [u8; 8]
 }
 
 // Stores a number's shortest form, and zeros behind it, up to eight bytes; gives the form's length.
-// That x is below 2^62 is asked: a `VarInt` holds any number, and a type of three functions would be longer than their clauses.
+// That x is below 2^62 is asked: a `VarInt` holds any number, and a type of three functions would
+// be longer than their clauses.
 #[tactic(auto, using(varint::proofs::Bytes::tag_le, varint::proofs::Bytes::tag_room))]
 fn put_wide(x: u64, out: &mut [u8]) -> usize
     requires { (x < 2 ^ 62) × (8 ≤ length out.old) }
@@ -48,7 +50,7 @@ fn put_wide(x: u64, out: &mut [u8]) -> usize
     1 << tag
 }
 
-// A parameter that holds a number.
+/// A parameter that holds a number.
 #[tactic(auto, using(crate::proofs::Wide::number_off, crate::proofs::Wide::number_short, crate::proofs::Wide::id_beyond, crate::proofs::Wide::number_beyond))]
 pub fn lay_number(due: bool, id: u64, x: u64, out: &mut [u8]) -> usize
     ensures { (result, out.new) ≡ laid_number due id x out.old }
@@ -96,7 +98,7 @@ fn lay_long(id: u64, x: u64, out: &mut [u8]) -> usize
     b + n
 }
 
-// The first `n` bytes of a field as a value; all of the field is stored.
+/// The first `n` bytes of a field as a value; all of the field is stored.
 #[tactic(auto, using(crate::proofs::Wide::field, crate::proofs::Wide::field_off, crate::proofs::Wide::no_field, crate::proofs::Wide::field_beyond, crate::proofs::Wide::field_short))]
 pub fn lay_field(due: bool, id: u64, n: usize, v: &[u8], out: &mut [u8]) -> usize
     ensures { (result, out.new) ≡ laid_field due id n v.now out.old }

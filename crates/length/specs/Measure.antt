@@ -1,4 +1,5 @@
--- What the length of a record says of writing it, over `write` itself: the answer, and the buffer afterwards.
+-- What the length of a record says of writing it, over `write` itself: the answer, and the buffer
+-- afterwards.
 use Rattle.std.specs.Prelude.{ℕ, ◌≤◌, ◌<◌, ◌≡◌, List, ◌↔◌, true, length}
 use Rattle.refusal.specs.Outcome.{accepted, refused, front}
 use Rattle.catalogue.specs.Catalogue.{places}
@@ -13,7 +14,8 @@ unfoldable pub drawn : TransportParameters → List ℕ → TransportParameters
 drawn r os = having r.max_datagram_frame_size r.grease_transport_parameter (order_from true os) r
 
 pub record Measure : Type 0 where
-  -- whatever permutation is drawn later: writing stores exactly so many bytes, and refuses 5 exactly if the buffer is shorter
+  -- whatever permutation is drawn later: writing stores exactly so many bytes, and refuses 5
+  -- exactly if the buffer is shorter
   pub stored :
       (r : TransportParameters) (os out : List ℕ) (n : ℕ) → length_of r ≡ accepted n → permutation os ≡ true → n ≤ length out
       → write (drawn r os) out ≡ (accepted n, front (extension r os) out)

@@ -1,4 +1,5 @@
-// The length of a record on the wire, before its order is drawn. Sizes are added up, field by field; nothing is written.
+// The length of a record on the wire, before its order is drawn. Sizes are added up, field by
+// field; nothing is written.
 #![tactic(auto)]
 
 ghost use Rattle.std.specs.Prelude.{◌≡◌, ◌<◌, ◌^◌};
@@ -23,8 +24,8 @@ use version_information::VersionInformation;
 // A preferred address without its connection ID.
 const ADDRESS: u16 = 41;
 
-// Each gives the length of a parameter: 0 if it is not due, since callers add the lengths up, as those of crate wire do. A value is short, by its
-// type, and so is the parameter.
+// Each gives the length of a parameter: 0 if it is not due, since callers add the lengths up, as
+// those of crate wire do. A value is short, by its type, and so is the parameter.
 #[tactic(auto, using(wire::proofs::Put::number_size_lem, crate::proofs::Lengths::not_due, crate::proofs::Lengths::is_due))]
 fn value_length(due: bool, id: u64, n: u16) -> u32
     ensures { result ≡ value_length due id n }
@@ -71,8 +72,9 @@ fn versions_length(v: &VersionInformation) -> u32
     value_length(v.present, VERSION_INFORMATION_ID, n)
 }
 
-// Those of places 0 to 10, which hold numbers: a default is not due. By place, since three tables go by it, and no chain that ends in `sum`: tried over
-// places and over an array made by `from_fn`, the proof that the sum fits did not close.
+// Those of places 0 to 10, which hold numbers: a default is not due. By place, since three tables
+// go by it, and no chain that ends in `sum`: tried over places and over an array made by `from_fn`,
+// the proof that the sum fits did not close.
 #[tactic(auto, using(catalogue::proofs::Sums::sum_more, crate::proofs::Lengths::due_or_none), unfolding(catalogue::specs::Sum::sum, crate::specs::Length::number_length_at, catalogue::specs::Catalogue::id_at, catalogue::specs::Catalogue::ids, catalogue::specs::Catalogue::defaults))]
 fn numbers_length(numbers: &[u64; NUMBERS]) -> usize
     ensures { (result ≡ sum 11 (number_length_at numbers.now)) × (result < 2 ^ 36) }
@@ -85,7 +87,8 @@ fn numbers_length(numbers: &[u64; NUMBERS]) -> usize
     n
 }
 
-// Those of places 11 to 20. The last place's is added behind them: the proof that eleven fit did not close.
+// Those of places 11 to 20. The last place's is added behind them: the proof that eleven fit did
+// not close.
 #[tactic(auto, unfolding(crate::specs::Length::others_length, catalogue::specs::Catalogue::id_at, catalogue::specs::Catalogue::ids))]
 fn others_length(r: &TransportParameters) -> usize
     ensures { (result ≡ others_length r.now) × (result < 2 ^ 36) }
@@ -108,14 +111,14 @@ fn others_length(r: &TransportParameters) -> usize
     lengths.iter().map(|n| *n as usize).sum()
 }
 
-// How many bytes writing the record stores, whatever order it has or will have.
+/// How many bytes writing the record stores, whatever order it has or will have.
 #[tactic(auto, using(crate::proofs::Lengths::measured, crate::proofs::Lengths::not_measured))]
-pub fn length(r: TransportParameters) -> Result<usize, Refusal>
-    ensures { outcome_of result ≡ length_of r }
+pub fn length(r: &TransportParameters) -> Result<usize, Refusal>
+    ensures { outcome_of result ≡ length_of r.now }
 {
     if !r.is_well_formed() {
         return Err(Refusal::IllFormed);
     }
     let versions = versions_length(&r.version_information) as usize;
-    Ok(numbers_length(&r.numbers) + others_length(&r) + versions)
+    Ok(numbers_length(&r.numbers) + others_length(r) + versions)
 }

@@ -1,6 +1,6 @@
--- Laws of marks: a mark changes its own place (marked_same) and no other (marked_other); without any, no place is marked (unmarked); marks of
--- places below n are below 2 ^ n (mark_below).
--- Assumes nothing.
+-- Laws of marks: a mark changes its own place (marked_same) and no other (marked_other); without
+-- any, no place is marked (unmarked); marks of places below n are below 2 ^ n (mark_below). Assumes
+-- nothing.
 use Prim.Native.Nat.{ℕ, ◌/◌, ◌%◌, ◌^◌, ◌<◌, ◌≤◌}
 use mathlib.Core.Bool.{true, false}
 use mathlib.Core.Path.{◌≡◌, ap}

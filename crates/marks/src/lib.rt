@@ -1,12 +1,13 @@
-// Marks of places already met: bit k of the mask is place k's. The masks are plain numbers: the catalogue's constants are masks too. The tests
-// return early and shift by a `u32`: by `place < 32 && (marks >> place) & 1 == 1` reading took 3 to 5 percent more instructions.
+// Marks of places already met: bit k of the mask is place k's. The masks are plain numbers: the
+// catalogue's constants are masks too. The tests return early and shift by a `u32`: by `place < 32
+// && (marks >> place) & 1 == 1` reading took 3 to 5 percent more instructions.
 #![tactic(auto)]
 
 ghost use Rattle.std.specs.Prelude.{◌≡◌, ltb};
 ghost use Rattle.refusal.specs.Outcome.{pick};
 ghost use Rattle.marks.specs.Mark.{marked, mark};
 
-// Whether a place is marked; none from 32 on is.
+/// Whether a place is marked; none from 32 on is.
 #[tactic(auto, using(crate::proofs::Laws::marked_beyond), unfolding(crate::specs::Mark::marked))]
 pub fn is_marked(marks: u32, place: usize) -> bool
     ensures { result ≡ marked marks place }
@@ -18,7 +19,7 @@ pub fn is_marked(marks: u32, place: usize) -> bool
     (marks >> k) & 1 == 1
 }
 
-// The marks with that of a place set; there is none for places from 32 on.
+/// The marks with that of a place set; there is none for places from 32 on.
 #[tactic(auto, unfolding(crate::specs::Mark::mark))]
 pub fn with_mark(marks: u32, place: usize) -> u32
     ensures { result ≡ pick (ltb place 32) (mark marks place) marks }

@@ -1,13 +1,18 @@
--- What is wrong with an order: laws of the definition, and of a pass over the entries from the front. Assumes nothing.
---     located             the first position at which a test holds: it holds there and nowhere before, or nowhere
---     by_entry, by_end    what is wrong is the first entry at fault or, where none is, what the end shows
---     front_distinct      no entry before a position is at fault exactly if these entries are distinct places
+-- What is wrong with an order: laws of the definition, and of a pass over the entries from the
+-- front. Assumes nothing.
+--     located             the first position at which a test holds: it holds there and nowhere
+--                         before, or nowhere
+--     by_entry, by_end    what is wrong is the first entry at fault or, where none is, what the end
+--                         shows
+--     front_distinct      no entry before a position is at fault exactly if these entries are
+--                         distinct places
 --     turns               so there are at most 22 of them
 --     none_permutation    nothing is wrong exactly with a permutation
 --     first_fault         what the position says (specs/FirstFault.antt)
---     at_fault, one_more, met_more, at_end    a pass: an entry that is at fault, one that is not, and the end
---     at_outside, at_repeat, too_short, long_enough    its answers: an entry that is no place or repeats one, and the end with and without entries
---                                                      missing
+--     at_fault, one_more, met_more, at_end    a pass: an entry that is at fault, one that is not,
+--       and the end
+--     at_outside, at_repeat, too_short, long_enough    its answers: an entry that is no place or
+--       repeats one, and the end with and without entries missing
 --     next_met            one more entry is met
 use Prim.Native.Nat.{ℕ, zero, suc, ◌+◌, ◌≤◌, ◌<◌}
 use mathlib.Core.Path.{◌≡◌, refl, ap, sym, ◌∙◌}

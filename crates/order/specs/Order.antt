@@ -1,5 +1,5 @@
--- Orders of the places. A permutation of 0 to 21: 22 entries, each a place, and none of them twice. And what is wrong with a list of entries, by the
--- position of its first fault.
+-- Orders of the places. A permutation of 0 to 21: 22 entries, each a place, and none of them twice.
+-- And what is wrong with a list of entries, by the position of its first fault.
 use Rattle.std.specs.Prelude.{ℕ, zero, suc, List, [], ◌∷◌, Bool, true, ◌&&◌, ◌||◌, not, length, get_or, take, leb, ltb, eqb}
 use Rattle.std.proofs.Math.Option.{Option, none, some, or_else}
 use Rattle.refusal.specs.Outcome.{all, pick}
@@ -28,11 +28,13 @@ repeats os k = member (get_or os k 0) (take k os)
 abbrev pub faulty : List ℕ → ℕ → Bool
 faulty os k = outside os k || repeats os k
 
--- the first position below n at which a test holds. `or_else` is the first of two, or the second where that is none
+-- the first position below n at which a test holds. `or_else` is the first of two, or the second
+-- where that is none
 abbrev pub first_below : ℕ → (ℕ → Bool) → Option ℕ
 first_below zero t = none
 first_below (suc n) t = or_else (first_below n t) (pick (t n) (some n) none)
 
--- the position of the first entry at fault; the length if there is no such entry and entries are missing; none otherwise (request 04)
+-- the position of the first entry at fault; the length if there is no such entry and entries are
+-- missing; none otherwise (request 04)
 unfoldable pub order_fault : List ℕ → Option ℕ
 order_fault os = or_else (first_below (length os) (faulty os)) (pick (ltb (length os) places) (some (length os)) none)

@@ -8,9 +8,10 @@ ghost use Rattle.order.specs.Answer.{fault_position};
 use catalogue::PLACES;
 use marks::{is_marked, with_mark};
 
-// What is wrong with an order: the position, from 0, of the first entry that is no place or repeats an earlier one; the length if entries are only
-// missing; or nothing: it is a permutation of the places. One pass from the front, in which the places met are marked. It ends within the first 23
-// entries: no more than 22 have marks of their own.
+/// What is wrong with an order: the position, from 0, of the first entry that is no place or
+/// repeats an earlier one; the length if entries are only missing; or nothing: it is a permutation
+/// of the places. One pass from the front, in which the places met are marked. It ends within the
+/// first 23 entries: no more than 22 have marks of their own.
 #[tactic(auto, using(crate::proofs::Faults::too_short, crate::proofs::Faults::long_enough, marks::proofs::Laws::unmarked, crate::proofs::Faults::at_outside, crate::proofs::Faults::at_repeat, crate::proofs::Faults::next_met))]
 pub fn order_fault(order: &[u8]) -> Option<usize>
     ensures { fault_position result ≡ order_fault order.now }
@@ -29,7 +30,7 @@ pub fn order_fault(order: &[u8]) -> Option<usize>
     None
 }
 
-// Whether an order is a permutation of the places: nothing is wrong with it.
+/// Whether an order is a permutation of the places: nothing is wrong with it.
 pub fn is_permutation(order: &[u8]) -> bool
     ensures { result ≡ permutation order.now }
 {

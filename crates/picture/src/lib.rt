@@ -1,4 +1,5 @@
-// Shows where the bytes of an extension go: a bar for each part of a report, and the parameters that waste most.
+// Shows where the bytes of an extension go: a bar for each part of a report, and the parameters
+// that waste most.
 #![tactic(auto)]
 
 ghost use Rattle.std.specs.Prelude.{◌≡◌, ◌≤◌, length};
@@ -20,7 +21,7 @@ const COLUMNS: usize = 40;
 // How many of the parameters that waste most are shown.
 const SHOWN: usize = 10;
 
-// A part of the picture: its bytes, its share in percent, and how many columns its bar has.
+/// A part of the picture: its bytes, its share in percent, and how many columns its bar has.
 #[derive(Clone, Copy)]
 pub struct Part {
     pub bytes: usize,
@@ -71,7 +72,7 @@ fn share(n: usize, part: usize, whole: usize) -> usize
     ((n as u128 * part + all / 2) / all) as usize
 }
 
-// How many columns the bar of a part has.
+/// How many columns the bar of a part has.
 pub fn columns(part: usize, whole: usize) -> usize
     ensures columns { result ≡ columns_of part whole }
     ensures most { result ≤ 40 }
@@ -89,7 +90,7 @@ fn part_of(whole: usize, part: usize) -> Part
     }
 }
 
-// The parts of an extension: what is tidied, skipped, restated and saved.
+/// The parts of an extension: what is tidied, skipped, restated and saved.
 pub fn parts_of(src: &[u8], counts: Counts) -> [Part; 4]
     ensures { result ≡ parts_of (length src.now) counts }
 {
@@ -165,7 +166,7 @@ fn show_wasters(out: &mut Out, wasters: &[Waster])
     }
 }
 
-// The picture of a report on an extension.
+/// The picture of a report on an extension.
 #[tactic(auto, using(text::proofs::Printing::becomes_then, crate::proofs::Printing::becomes_output))]
 pub fn show(out: &mut Out, alloc: Global, src: &[u8], counts: Counts)
     ensures { Becomes Stream.Output out.old.fate out.new.fate }

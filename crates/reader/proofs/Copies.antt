@@ -1,7 +1,9 @@
--- A second copy of a known parameter (RFC 9000 section 7.4), over byte strings, for any catalogue: nothing here names a place. Assumes nothing.
+-- A second copy of a known parameter (RFC 9000 section 7.4), over byte strings, for any catalogue:
+-- nothing here names a place. Assumes nothing.
 --     met_by           a place that is met in the end was met by one of the parameters
 --     behind           what is behind whole parameters is read after them
---     copied           behind what is received without a fault it is a second copy, whatever its value, and whatever follows
+--     copied           behind what is received without a fault it is a second copy, whatever its
+--                      value, and whatever follows
 --     copy_refused     so behind what a side accepts it is refused with 12
 --     never_twice      what a side accepts has none
 use Prim.Native.Nat.{ℕ, zero, suc, ◌<◌}

@@ -1,4 +1,5 @@
--- Which of the faults it is and where it is found, for any catalogue: nothing here names a place. Assumes nothing.
+-- Which of the faults it is and where it is found, for any catalogue: nothing here names a place.
+-- Assumes nothing.
 --     number         the number of a fault
 --     refuses        a number that reading gives is 2, or that of a fault in a parameter
 --     faulty         a fault in a parameter is what reading gives

@@ -1,5 +1,6 @@
 -- What reading gives, for any catalogue: nothing here names a place. Assumes nothing.
---     grown      each value fits its place, and the shortest forms of all of them are no longer than the bytes read
+--     grown      each value fits its place, and the shortest forms of all of them are no longer
+--                than the bytes read
 use Prim.Native.Nat.{ℕ, zero, suc, ◌+◌, ◌≤◌, ◌<◌}
 use mathlib.Core.Path.{◌≡◌, refl}
 use mathlib.Core.List.{List, [], ◌∷◌}

@@ -1,4 +1,5 @@
--- Reading, by what the index keeps: the record of what is kept is the record of the values, and the value rules are the same. Assumes nothing.
+-- Reading, by what the index keeps: the record of what is kept is the record of the values, and the
+-- value rules are the same. Assumes nothing.
 --     read_indexed     reading gives the record of what is kept, or the number of the fault
 use Prim.Native.Nat.{ℕ, suc, ◌+◌, ◌-◌, ◌≤◌, ◌<◌}
 use mathlib.Core.Path.{◌≡◌, refl, ap, sym, ◌∙◌, subst}
@@ -25,10 +26,10 @@ use Rattle.rules.specs.Rules.{value_rules}
 use Rattle.front.specs.declared.Fault.{Fault}
 use Rattle.front.specs.declared.Fault.TheVariants.{Illegal}
 use Rattle.front.specs.Answer.{refused_with, numbered}
-use Rattle.index.specs.Index.{Found, nothing, index_from, id_len, kept_rules, indexed, value_at, optional_at, Sound}
+use Rattle.index.specs.Index.{Found, nothing, index_from, id_len, kept_rules, indexed, value_at, number_received, Sound}
 use Rattle.index.proofs.Parts.{versions_no, address_place, id_there, id_none}
 use Rattle.reader.specs.Reading.{parse, judge, read}
-use Rattle.reader.specs.Kept.{record_from, FitsIfAny}
+use Rattle.reader.specs.Kept.{record_kept, FitsIfAny}
 use Rattle.reader.proofs.Built.{id_len_lem}
 use Rattle.reader.proofs.Grow.{grown}
 use Rattle.reader.proofs.Agree.{Agrees, Related, related}
@@ -93,7 +94,7 @@ id_is s f i = go (value_at s f 15) refl (kept_fits address s f i 15 address_plac
     go (some v) e t = sym (id_there s f i v (sym e)).1 ∙ sym (id_len_lem v t)
 
 module _ (s : List ℕ) (f : Found) (l : Values) (i : Sound s f) (g : Agrees s f l) where
-  optional_same : (p : ℕ) → kind_at p ≡ number → get_or defaults p 0 ≡ 0 → optional_at f p ≡ optional_in (l p)
+  optional_same : (p : ℕ) → kind_at p ≡ number → get_or defaults p 0 ≡ 0 → number_received f p ≡ optional_in (l p)
   optional_same p k d = optional_is (l p) (marked f.0 p) (get_or f.1 p 0) (g.met p) (g.number_at p k ∙ rw d)
 
   numbers_same : elements 11 0 f.1 ≡ numbers_in defaults 0 l
@@ -101,8 +102,8 @@ module _ (s : List ℕ) (f : Found) (l : Values) (i : Sound s f) (g : Agrees s f
       let n : length defaults ≡ 11 = unfold defaults in refl in
       rw n at (numbers_from_lem defaults f.1 l 0 λ p x y. let e : p - 0 ≡ p = omega arith in g.number_at p (number_kind p (omega arith)) ∙ rw e)
 
-  record_same : record_from s f ≡ record_of l
-  unfolding record_from record_of kind_at kinds other_kinds
+  record_same : record_kept s f ≡ record_of l
+  unfolding record_kept record_of kind_at kinds other_kinds
   record_same =
       rw (
         numbers_same,
@@ -118,10 +119,10 @@ module _ (s : List ℕ) (f : Found) (l : Values) (i : Sound s f) (g : Agrees s f
         ← g.value_at 21 versions_no,
       )
 
-  rules_same : (side : Side) → kept_rules side s f ≡ value_rules side (record_from s f)
-  unfolding kept_rules value_rules record_from value_at all
+  rules_same : (side : Side) → kept_rules side s f ≡ value_rules side (record_kept s f)
+  unfolding kept_rules value_rules record_kept value_at all
   rules_same side =
-      let d : least (optional_at f 20) ≡ get_or f.1 20 0
+      let d : least (number_received f 20) ≡ get_or f.1 20 0
       = least_is (l 20) (marked f.0 20) (get_or f.1 20 0) (g.met 20) (g.number_at 20 (unfold kind_at kinds other_kinds in refl) ∙ (unfold defaults in refl)) in
       let v : ℕ → List ℕ = λ p. take (get_or f.2 p 0) (drop (get_or f.1 p 0) s) in
       rw (
@@ -135,14 +136,14 @@ module _ (s : List ℕ) (f : Found) (l : Values) (i : Sound s f) (g : Agrees s f
 
 -- READING
 abbrev pub recorded : List ℕ → Result Fault Found → Result Fault TransportParameters
-recorded s (accepted f) = accepted (record_from s f)
+recorded s (accepted f) = accepted (record_kept s f)
 recorded s (refused x) = refused x
 
 pub read_indexed : (side : Side) (s : List ℕ) → read side s ≡ numbered (recorded s (indexed side s))
 unfolding read indexed judge
 read_indexed side s = go (index_from s 0 nothing) (parse no_values s) (related s)
   where
-    one : (b : Bool) (r : TransportParameters) (f : Found) → record_from s f ≡ r
+    one : (b : Bool) (r : TransportParameters) (f : Found) → record_kept s f ≡ r
         → numbered (pick b (accepted r) (refused Illegal)) ≡ numbered (recorded s (pick b (accepted f) (refused Illegal)))
     one true r f e = rw e
     one false r f e = refl
@@ -152,7 +153,7 @@ read_indexed side s = go (index_from s 0 nothing) (parse no_values s) (related s
         ≡ numbered (recorded s (and_then o λ f. pick (kept_rules side s f) (accepted f) (refused Illegal)))
     go (accepted f) (accepted l) r =
         let e = record_same s f l r.0 r.1 in
-        rw (rules_same s f l r.0 r.1 side, ← e) (one (value_rules side (record_from s f)) (record_from s f) f refl)
+        rw (rules_same s f l r.0 r.1 side, ← e) (one (value_rules side (record_kept s f)) (record_kept s f) f refl)
     go (accepted f) (refused x) r = absurd r
     go (refused y) (accepted l) r = absurd r
     go (refused y) (refused x) r = rw r
@@ -160,7 +161,7 @@ read_indexed side s = go (index_from s 0 nothing) (parse no_values s) (related s
 pub read_stopped : (side : Side) (s : List ℕ) (x : Fault) → refused x ≡ indexed side s → refused (number_of (refused_with x)) ≡ read side s
 read_stopped side s x h = rw (read_indexed side s, ← h)
 
-pub read_kept : (side : Side) (s : List ℕ) (f : Found) (r : TransportParameters) → r ≡ record_from s f → accepted f ≡ indexed side s → accepted r ≡ read side s
+pub read_kept : (side : Side) (s : List ℕ) (f : Found) (r : TransportParameters) → r ≡ record_kept s f → accepted f ≡ indexed side s → accepted r ≡ read side s
 read_kept side s f r e h = rw (e, read_indexed side s, ← h)
 
 -- a part that was lent by its start and its length
@@ -184,7 +185,7 @@ kept_good side s f hb e p n =
     go (refused y) (accepted l) r h k = absurd r
     go (refused y) (refused x) r h k = cc
 
-pub read_recorded : (side : Side) (s : List ℕ) (f : Found) → indexed side s ≡ accepted f → read side s ≡ accepted (record_from s f)
+pub read_recorded : (side : Side) (s : List ℕ) (f : Found) → indexed side s ≡ accepted f → read side s ≡ accepted (record_kept s f)
 read_recorded side s f h = read_indexed side s ∙ rw h
 
 pub read_faulty : (side : Side) (s : List ℕ) (x : Fault) → indexed side s ≡ refused x → read side s ≡ refused (number_of (refused_with x))

@@ -3,7 +3,8 @@
 --     then_assoc          three operations one after another
 --     parse_append        bytes behind whole parameters are read after them
 --     accepts             what an accepted extension shows
---     accepted_legal      the record is legal for the side that read it, and has neither order nor reserved parameter
+--     accepted_legal      the record is legal for the side that read it, and has neither order nor
+--                         reserved parameter
 --     same_record         the record does not depend on the side
 --     composed            what is received to its end is made of whole parameters
 --     whole               so is what a side accepts

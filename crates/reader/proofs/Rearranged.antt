@@ -1,5 +1,7 @@
--- Whole parameters in another order, for any catalogue: nothing here names a place. Assumes nothing.
---     rearranged      what a side accepts it accepts in every order of its whole parameters, with the same record
+-- Whole parameters in another order, for any catalogue: nothing here names a place. Assumes
+-- nothing.
+--     rearranged      what a side accepts it accepts in every order of its whole parameters, with
+--                     the same record
 --     refused_too     and whole parameters that it refuses it refuses in every order
 use Prim.Native.Nat.{ℕ}
 use mathlib.Core.Path.{◌≡◌, refl, ap, sym, ◌∙◌, fun_ext}
@@ -74,7 +76,8 @@ parsed (Permᴰ.trans d t) h l m e = parsed t (still_whole d h) l m (parsed d h 
 Values-set : IsSet Values
 Values-set = Π_set λ p. Option.is_set (List.is_set ℕ_set)
 
--- `Perm` says that there is a way from one order to the other, not which: the outcome is the same by every one
+-- `Perm` says that there is a way from one order to the other, not which: the outcome is the same
+-- by every one
 any_order : {ws us : List (List ℕ)} → Perm ws us → Wholes ws → (l m : Values) → parse l (concat ws) ≡ accepted m → parse l (concat us) ≡ accepted m
 any_order {ws} {us} d h l m e = go (parse l (concat us)) (∥∥₁_map d (λ d. parsed d h l m e))
   where

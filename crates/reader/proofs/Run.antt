@@ -1,4 +1,5 @@
--- Laws of reading one parameter after another, for any catalogue: nothing here names a place. Assumes nothing.
+-- Laws of reading one parameter after another, for any catalogue: nothing here names a place.
+-- Assumes nothing.
 --     parse_nil        no bytes
 --     parse_cut        bytes that start no whole parameter
 --     parse_front      the parameter at the front, and then the rest
@@ -6,10 +7,12 @@
 --     step_unknown     an unknown parameter is skipped
 --     step_copy        a second copy is refused, whatever its value
 --     step_stored      a value that fits and is not illegal is stored at a place that is free
---     step_misfit      a value that neither fits nor is illegal is a misfit, at a place that is free
+--     step_misfit      a value that neither fits nor is illegal is a misfit, at a place that is
+--                      free
 --     stepped          what a step that was accepted did
 --     skipped          unknown whole parameters anywhere change nothing
---     upd_here, upd_there, upd_at    values with one place replaced: at that place, at another, as a whole
+--     upd_here, upd_there, upd_at    values with one place replaced: at that place, at another, as
+--                                    a whole
 use Prim.Native.Nat.{ℕ, zero, suc, ◌≤◌, ◌<◌}
 use mathlib.Core.Path.{◌≡◌, refl, ap, sym, ◌∙◌, fun_ext}
 use mathlib.Core.List.{List, [], ◌∷◌, ◌++◌}

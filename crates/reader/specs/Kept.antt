@@ -6,17 +6,17 @@ use Rattle.marks.specs.Mark.{marked}
 use Rattle.catalogue.specs.Catalogue.{Kind, fits}
 use Rattle.record.specs.declared.TransportParameters.{TransportParameters}
 use Rattle.record.specs.Values.{cid_in, token_in, address_in, versions_in, no_reserved, no_order}
-use Rattle.index.specs.Index.{Found, value_at, optional_at}
+use Rattle.index.specs.Index.{Found, value_at, number_received}
 
-unfoldable pub record_from : List ℕ → Found → TransportParameters
-record_from s f =
+unfoldable pub record_kept : List ℕ → Found → TransportParameters
+record_kept s f =
     record {
       numbers = elements 11 0 f.1;
       disable_active_migration = marked f.0 13;
-      max_datagram_frame_size = optional_at f 14;
+      max_datagram_frame_size = number_received f 14;
       initial_src_cid = cid_in (value_at s f 17);
       grease_quic_bit = marked f.0 19;
-      min_ack_delay = optional_at f 20;
+      min_ack_delay = number_received f 20;
       original_dst_cid = cid_in (value_at s f 16);
       retry_src_cid = cid_in (value_at s f 18);
       stateless_reset_token = token_in (value_at s f 12);

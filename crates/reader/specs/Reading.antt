@@ -1,5 +1,5 @@
--- Reading an extension (RFC 9000 sections 7.4 and 18), as a definition: the values received at each place, one parameter after
--- another; then the value rules; then the record.
+-- Reading an extension (RFC 9000 sections 7.4 and 18), as a definition: the values received at each
+-- place, one parameter after another; then the value rules; then the record.
 use Rattle.std.specs.Prelude.{ℕ, zero, suc, List, [], ◌∷◌, length, ltb}
 use Rattle.std.proofs.Math.Option.{some}
 use Rattle.refusal.specs.Outcome.{Result, accepted, refused, Outcome, pick, and_then}
@@ -13,7 +13,8 @@ use Rattle.front.specs.declared.Fault.TheVariants.{Cut, SecondCopy, Misfit, Ille
 use Rattle.front.specs.Parameter.{read_parameter}
 use Rattle.front.specs.Answer.{numbered}
 
--- a value for a known place: a second copy (section 7.4), then a value that is illegal, then one that does not fit
+-- a value for a known place: a second copy (section 7.4), then a value that is illegal, then one
+-- that does not fit
 unfoldable pub receive : Values → ℕ → List ℕ → Result Fault Values
 receive l p v =
     pick (is_some (l p))

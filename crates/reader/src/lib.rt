@@ -1,4 +1,5 @@
-// Reading an extension: `TransportParameters::read` of quinn's transport_parameters.rs. The record is built once, of what the index kept.
+// Reading an extension: `TransportParameters::read` of quinn's transport_parameters.rs. The record
+// is built once, of what the index kept.
 #![tactic(auto)]
 
 ghost use Rattle.std.specs.Prelude.{◌≡◌, ◌+◌, true, false, length, option_copied, MatchOption};
@@ -7,9 +8,9 @@ ghost use Rattle.refusal.specs.Answer.{outcome_of};
 ghost use Rattle.catalogue.specs.Catalogue.{cid, token, address, fits};
 ghost use Rattle.connection_id.specs.ConnectionId.{cid_of};
 ghost use Rattle.record.specs.Values.{token_of, cid_in, token_in, address_in, family_in, of_address};
-ghost use Rattle.index.specs.Answer.{found_of, given};
+ghost use Rattle.index.specs.Answer.{found_of, option_of};
 ghost use Rattle.reader.specs.Reading.{read};
-ghost use Rattle.reader.specs.Kept.{record_from, FitsIfAny};
+ghost use Rattle.reader.specs.Kept.{record_kept, FitsIfAny};
 
 use catalogue::{
     DISABLE_ACTIVE_MIGRATION, GREASE_QUIC_BIT, INITIAL_SRC_CID, MAX_DATAGRAM_FRAME_SIZE,
@@ -49,7 +50,8 @@ fn token_of(v: &[u8]) -> ResetToken
 
 // As the record holds what may be missing.
 fn optional<T: Default>(v: Option<T>) -> Optional<T>
-    ensures { MatchOption v ((result.present ≡ false) × T.is_default result.value) (λ x. (result.present ≡ true) × (result.value ≡ x)) }
+    ensures { MatchOption v ((result.present ≡ false) × T.is_default result.value)
+        (λ x. (result.present ≡ true) × (result.value ≡ x)) }
 {
     match v {
         Some(value) => Optional {
@@ -62,15 +64,15 @@ fn optional<T: Default>(v: Option<T>) -> Optional<T>
 
 // Two and no generic one: each is one line, and states a definition of its own.
 fn cid_in(v: Option<&[u8]>) -> Optional<ConnectionId>
-    requires { FitsIfAny cid (given (option_copied v)) }
-    ensures { result ≡ cid_in (given (option_copied v.entry)) }
+    requires { FitsIfAny cid (option_of (option_copied v)) }
+    ensures { result ≡ cid_in (option_of (option_copied v.entry)) }
 {
     optional(v.map(cid_of))
 }
 
 fn token_in(v: Option<&[u8]>) -> Optional<ResetToken>
-    requires { FitsIfAny token (given (option_copied v)) }
-    ensures { result ≡ token_in (given (option_copied v.entry)) }
+    requires { FitsIfAny token (option_of (option_copied v)) }
+    ensures { result ≡ token_in (option_of (option_copied v.entry)) }
 {
     optional(v.map(token_of))
 }
@@ -105,15 +107,15 @@ fn address_of(v: &[u8]) -> PreferredAddress
 }
 
 fn address_in(v: Option<&[u8]>) -> PreferredAddress
-    requires { FitsIfAny address (given (option_copied v)) }
-    ensures { result ≡ address_in (given (option_copied v.entry)) }
+    requires { FitsIfAny address (option_of (option_copied v)) }
+    ensures { result ≡ address_in (option_of (option_copied v.entry)) }
 {
     v.map(address_of).unwrap_or_default()
 }
 
 // The record of what was kept.
 fn record_of(kept: &Kept) -> TransportParameters
-    ensures { result ≡ record_from kept.now.src.now (found_of kept.now.entries) }
+    ensures { result ≡ record_kept kept.now.src.now (found_of kept.now.entries) }
 {
     let entries = &kept.entries;
     TransportParameters {
@@ -133,7 +135,7 @@ fn record_of(kept: &Kept) -> TransportParameters
     }
 }
 
-// Reads an extension for a side.
+/// Reads an extension for a side.
 pub fn read(side: Side, src: &[u8]) -> Result<TransportParameters, Refusal>
     ensures { outcome_of result ≡ read side src.now }
 {

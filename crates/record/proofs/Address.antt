@@ -1,5 +1,6 @@
 -- The laws of a preferred address, named as in KindLaws.antt. Assumes nothing.
---     families_formed      an address that is read offers a family, and offers none that is all zero with port 0
+--     families_formed      an address that is read offers a family, and offers none that is all
+--                          zero with port 0
 use Prim.Native.Nat.{ℕ, ◌+◌, ◌≤◌, ◌<◌}
 use mathlib.Core.Path.{◌≡◌, refl, ap, sym, ◌∙◌}
 use mathlib.Core.List.{List, [], ◌∷◌, ◌++◌, append_assoc}
@@ -227,8 +228,8 @@ not_zeros v f =
     let m : 41 + id_length v ≤ length v = omega arith in
     sym (and-true (zeros (take 24 v))) ∙ rw (le-leb 25 (length v) i, le-leb (id_length v) 20 k.1, le-leb (41 + id_length v) (length v) m) at f.legal
 
-joined : (v : List ℕ) (n : ℕ) → 24 < length v → v ≡ whole (take 6 v) (take 18 (drop 6 v)) (id_length v) (take n (drop 25 v)) (drop (25 + n) v)
-joined v n h =
+joined_value : (v : List ℕ) (n : ℕ) → 24 < length v → v ≡ whole (take 6 v) (take 18 (drop 6 v)) (id_length v) (take n (drop 25 v)) (drop (25 + n) v)
+joined_value v n h =
     sym (take-append-drop 6 v)
     ∙ ap (λ l. take 6 v ++ l) (
     sym (take-append-drop 18 (drop 6 v))
@@ -242,7 +243,7 @@ read_parts v f k =
     let h = fits_facts v f in
     k (take 6 v) (take 18 (drop 6 v)) (id_length v) (take (id_length v) (drop 25 v)) (drop (25 + id_length v) v)
     (record {
-      is = joined v (id_length v) (omega arith);
+      is = joined_value v (id_length v) (omega arith);
       hx = length-take-le 6 v (omega arith);
       hy = length-take-le 18 (drop 6 v) (simp length-drop (omega arith));
       hc = length-take-le (id_length v) (drop 25 v) (simp length-drop (omega arith));

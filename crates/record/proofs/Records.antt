@@ -3,7 +3,8 @@
 --     values_of_none              no value is sent beyond the last place
 --     sound                       the values sent for a well-formed record are read without fault
 --     back                        they are read back
---     formed, families            a record of values that fit is well formed, and its families as they should be
+--     formed, families            a record of values that fit is well formed, and its families as
+--                                 they should be
 --     short                       it is no longer when it is sent
 use Prim.Native.Nat.{ℕ, zero, suc, ◌+◌, ◌-◌, ◌^◌, ◌≤◌, ◌<◌}
 use mathlib.Core.Path.{◌≡◌, refl, ap, sym, subst}

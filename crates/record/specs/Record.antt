@@ -1,4 +1,5 @@
--- Records: well formed; what else a preferred address must be; with a part replaced, and so without order and reserved parameter.
+-- Records: well formed; what else a preferred address must be; with a part replaced, and so without
+-- order and reserved parameter.
 use Rattle.std.specs.Prelude.{ℕ, ◌%◌, [], ◌∷◌, Bool, true, ◌&&◌, ◌||◌, not, length, drop, ltb, leb, eqb}
 use Rattle.refusal.specs.Outcome.{pick, all}
 use Rattle.catalogue.specs.Catalogue.{places}
@@ -26,8 +27,8 @@ is_present o = is_some o
 abbrev pub least : OptionalNumber → ℕ
 least o = unwrap_or o 0
 
--- WELL FORMED: numbers below 2 ^ 62; IDs of at most 20 bytes, zeros after them; only zeros, and length 0, in whatever is absent. What the
--- types say of lengths and ports stands here too
+-- WELL FORMED: numbers below 2 ^ 62; IDs of at most 20 bytes, zeros after them; only zeros, and
+-- length 0, in whatever is absent. What the types say of lengths and ports stands here too
 unfoldable pub formed_optional : OptionalNumber → Bool
 formed_optional None = true
 formed_optional (Some x) = ltb x bound

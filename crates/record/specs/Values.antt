@@ -1,5 +1,6 @@
--- Records and the values on the wire: for each kind, what the record holds for a value received (In), and the value that is sent for
--- what the record holds (Out); then the whole record from the values of all places, and the values of a record.
+-- Records and the values on the wire: for each kind, what the record holds for a value received
+-- (In), and the value that is sent for what the record holds (Out); then the whole record from the
+-- values of all places, and the values of a record.
 use Rattle.std.specs.Prelude.{ℕ, suc, ◌+◌, ◌-◌, ◌<◌, List, [], ◌∷◌, ◌++◌, Bool, true, false, not, get_or, take, drop, replicate, ltb, eqb}
 use Rattle.std.proofs.Math.Option.{Option, none, some}
 use Rattle.refusal.specs.Outcome.{Outcome, accepted, refused, pick}
@@ -85,7 +86,8 @@ token_in (some v) = record { present = true; value = token_of v }
 unfoldable pub token_out : OptionalResetToken → Option (List ℕ)
 token_out o = pick o.present (some o.value.bytes) none
 
--- THE PREFERRED ADDRESS. A family: whether it is offered, its address and its port; not offered is all zero
+-- THE PREFERRED ADDRESS. A family: whether it is offered, its address and its port; not offered is
+-- all zero
 abbrev pub Family : Type 0
 Family = Bool × List ℕ × ℕ
 
@@ -189,7 +191,8 @@ other_values r =
     ∷ cid_out r.retry_src_cid ∷ flag_out r.grease_quic_bit ∷ optional_out r.min_ack_delay
     ∷ versions_out r.version_information ∷ []
 
--- the values that are sent for a record; the reserved parameter, at place 11, has no value of its own
+-- the values that are sent for a record; the reserved parameter, at place 11, has no value of its
+-- own
 unfoldable pub values_of : TransportParameters → Values
 values_of r p =
     pick (ltb p 11) (number_out (get_or defaults p 0) (get_or r.numbers p 0))

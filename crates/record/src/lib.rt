@@ -1,4 +1,5 @@
-// The record of transport parameters: quinn's `TransportParameters` and what it holds; whether a record is well formed.
+// The record of transport parameters: quinn's `TransportParameters` and what it holds; whether a
+// record is well formed.
 #![tactic(auto)]
 
 ghost use Rattle.std.specs.Prelude.{◌≡◌, ◌&&◌, ◌%◌, ltb, eqb};
@@ -14,8 +15,9 @@ use varint::VarInt;
 use version_information::VersionInformation;
 use words::{all_zero, zero_from};
 
-// What may be missing is marked by `present`, and all zero where it is absent. An `Option` has no room for what is marked absent and is not zero,
-// a record of its own that is refused as ill formed.
+/// What may be missing is marked by `present`, and all zero where it is absent. An `Option` has no
+/// room for what is marked absent and is not zero, a record of its own that is refused as ill
+/// formed.
 #[derive(Clone, Copy, Debug, Default, PartialEq, Eq)]
 pub struct Optional<T> {
     pub present: bool,
@@ -27,8 +29,9 @@ pub struct ResetToken {
     pub bytes: [u8; 16],
 }
 
-// An address of `N` bytes and a port, of one of the two families. Here and in the next three `present` stands among the fields: with an `Optional` of
-// each a port would be `preferred_address.value.address_v4.value.port`, which is no plainer.
+/// An address of `N` bytes and a port, of one of the two families. Here and in the next three
+/// `present` stands among the fields: with an `Optional` of each a port would be
+/// `preferred_address.value.address_v4.value.port`, which is no plainer.
 #[derive(Clone, Copy, Debug, Default, PartialEq, Eq)]
 pub struct SocketAddr<const N: usize> {
     pub present: bool,
@@ -49,7 +52,8 @@ pub struct PreferredAddress {
     pub stateless_reset_token: ResetToken,
 }
 
-// The reserved parameter that is sent so that peers go on skipping unknown ones. Fixed memory: the payload is an array with a length, as in the Rust.
+/// The reserved parameter that is sent so that peers go on skipping unknown ones. Fixed memory: the
+/// payload is an array with a length, as in the Rust.
 #[derive(Clone, Copy, Debug, Default, PartialEq, Eq)]
 pub struct ReservedTransportParameter {
     pub present: bool,
@@ -58,22 +62,24 @@ pub struct ReservedTransportParameter {
     pub payload_len: u8,
 }
 
-// The order in which the places are written; where it is absent, catalogue order.
+/// The order in which the places are written; where it is absent, catalogue order.
 #[derive(Clone, Copy, Debug, Default, PartialEq, Eq)]
 pub struct WriteOrder {
     pub present: bool,
     pub places: [u8; PLACES],
 }
 
-#[derive(Clone, Copy, Debug, PartialEq, Eq)]
+/// What an extension says, and how it is written. No `==`: two records say the same if they are
+/// equal without order and reserved parameter (`bare`), and then they are tidied to the same bytes.
+#[derive(Clone, Copy, Debug)]
 pub struct TransportParameters {
-    // places 0 to 10 of the catalogue
+    /// places 0 to 10 of the catalogue
     pub numbers: [u64; NUMBERS],
     pub disable_active_migration: bool,
     pub max_datagram_frame_size: Option<u64>,
     pub initial_src_cid: Optional<ConnectionId>,
     pub grease_quic_bit: bool,
-    // in microseconds
+    /// in microseconds
     pub min_ack_delay: Option<u64>,
     pub original_dst_cid: Optional<ConnectionId>,
     pub retry_src_cid: Optional<ConnectionId>,
@@ -85,7 +91,7 @@ pub struct TransportParameters {
 }
 
 impl<const N: usize> SocketAddr<N> {
-    // An address of zeros and port 0.
+    /// An address of zeros and port 0.
     pub fn is_unspecified(self) -> bool
         ensures { result ≡ unspecified (of_address self.entry) }
     {
@@ -94,7 +100,7 @@ impl<const N: usize> SocketAddr<N> {
 }
 
 impl Optional<ConnectionId> {
-    // Whether the ID is well formed, and empty where it is absent.
+    /// Whether the ID is well formed, and empty where it is absent.
     #[tactic(auto, using(std::proofs::lemmas::Bool::Decides::nat_tests), unfolding(crate::specs::Record::formed_optional_cid, refusal::specs::Outcome::all))]
     pub fn is_well_formed(&self) -> bool
         ensures { result ≡ formed_optional_cid self.now }
@@ -137,7 +143,8 @@ fn formed_token(o: &Optional<ResetToken>) -> bool
     o.present | zero_from(&o.value.bytes, 0)
 }
 
-// Tried by `is_unspecified`: the proof did not close, since only a reading of the port tells its range.
+// Tried by `is_unspecified`: the proof did not close, since only a reading of the port tells its
+// range.
 #[tactic(auto, using(std::proofs::lemmas::Bool::Decides::nat_tests), unfolding(crate::specs::Record::formed_family, refusal::specs::Outcome::all))]
 fn formed_family<const N: usize>(a: &SocketAddr<N>) -> bool
     ensures { result ≡ formed_family N (of_address a.now) }
@@ -214,8 +221,8 @@ impl Default for TransportParameters {
 
 impl TransportParameters {
     #[tactic(auto, using(std::proofs::lemmas::Bool::Decides::nat_tests), unfolding(crate::specs::Record::well_formed, refusal::specs::Outcome::all))]
-    pub fn is_well_formed(self) -> bool
-        ensures { result ≡ well_formed self }
+    pub fn is_well_formed(&self) -> bool
+        ensures { result ≡ well_formed self.now }
     {
         formed_numbers(&self.numbers)
             & formed_reserved(&self.grease_transport_parameter)

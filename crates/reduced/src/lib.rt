@@ -17,8 +17,9 @@ use text::byte;
 use text::out::Out;
 use words::bytes_at;
 
-// What is remembered for 0-RTT, by place: what the definition of resumption looks at (`remembered`, `nothing_reduced`). Resumption has a list of its
-// own: it is private, and of the plain numbers alone.
+// What is remembered for 0-RTT, by place: what the definition of resumption looks at (`remembered`,
+// `nothing_reduced`). Resumption has a list of its own: it is private, and of the plain numbers
+// alone.
 const REMEMBERED: [usize; 9] = [
     INITIAL_MAX_DATA,
     INITIAL_MAX_STREAM_DATA_BIDI_LOCAL,
@@ -49,7 +50,8 @@ fn limit_in(row: Row, image: &[u8]) -> Limit {
 }
 
 impl Limit {
-    // Less is reduced: what is absent is as little as 0, and a flag that is set is more than one that is not. By a derived order it would be less than 0.
+    // Less is reduced: what is absent is as little as 0, and a flag that is set is more than one
+    // that is not. By a derived order it would be less than 0.
     fn size(self) -> u64 {
         match self {
             Limit::Absent => 0,
@@ -70,7 +72,8 @@ impl Display for Limit {
     }
 }
 
-// The limits that a record reduces, by its image and that of the remembered one: what each was, and what it is.
+/// The limits that a record reduces, by its image and that of the remembered one: what each was,
+/// and what it is.
 #[tactic(auto, using(text::proofs::Printing::unchanged, text::proofs::Printing::becomes_then))]
 pub fn note_reduced(out: &mut Out, new: &[u8], cached: &[u8])
     ensures { Becomes Stream.Error out.old.fate out.new.fate }

@@ -1,4 +1,5 @@
--- What an operation gives: a result, or a refusal by its number. And the few words that the definitions are written with.
+-- What an operation gives: a result, or a refusal by its number. And the few words that the
+-- definitions are written with.
 use Rattle.std.specs.Prelude.{ℕ, Bool, true, false, ◌&&◌, List, [], ◌∷◌, ◌++◌, length, drop, leb}
 
 pub data Result (E A : Type 0) : Type 0 where
@@ -27,6 +28,7 @@ all (b ∷ bs) = b && all bs
 unfoldable pub front : List ℕ → List ℕ → List ℕ
 front bs out = bs ++ drop (length bs) out
 
--- what storing the bytes due answers, and the buffer afterwards: 5 exactly if the buffer is shorter, and then it stays
+-- what storing the bytes due answers, and the buffer afterwards: 5 exactly if the buffer is
+-- shorter, and then it stays
 unfoldable pub store : List ℕ → List ℕ → Outcome ℕ × List ℕ
 store bs out = pick (leb (length bs) (length out)) (accepted (length bs), front bs out) (refused 5, out)

@@ -1,6 +1,7 @@
-// Replays recorded answers, quinn's but where document 01 or 02 gives another: standard input holds the list that `oracle/run record` wrote, and
-// oracle/src/list.rs says how an entry is laid out. Each call goes through the C interface's functions; compared are refusal, number, bytes
-// stored and bytes left alone.
+// Replays recorded answers, quinn's but where document 01 or 02 gives another: standard input holds
+// the list that `oracle/run record` wrote, and oracle/src/list.rs says how an entry is laid out.
+// Each call goes through the C interface's functions; compared are refusal, number, bytes stored
+// and bytes left alone.
 #![tactic(auto)]
 
 ghost use Rattle.std.specs.Prelude.{◌<◌};
@@ -16,11 +17,12 @@ use words::bytes_at;
 // The longest output of an entry.
 const MOST: usize = 512;
 
-// The longest entry behind its head. Buffers are as long as these and no Vec: the list's bounds are known, and nothing can run out of memory.
+// The longest entry behind its head. Buffers are as long as these and no Vec: the list's bounds are
+// known, and nothing can run out of memory.
 const LONGEST: usize = 2048;
 
-// What stands in an output and in a number before a call. No Option: the C interface stores through references, and that it leaves them alone is
-// what is tested.
+// What stands in an output and in a number before a call. No Option: the C interface stores through
+// references, and that it leaves them alone is what is tested.
 const FILL: u8 = 0xa7;
 
 const UNTOUCHED: u64 = 0xa7a7a7a7a7a7a7a7;
@@ -71,8 +73,9 @@ fn part<'a>(b: &'a [u8], from: usize, to: usize) -> &'a [u8] {
     b.get(from..to).unwrap_or(b)
 }
 
-// What a call gave: the refusal or 0; a count, a limit or a size, 0 where none is due, and none where one is stored that is not; and what
-// number_read and report store besides, none where nothing is.
+// What a call gave: the refusal or 0; a count, a limit or a size, 0 where none is due, and none
+// where one is stored that is not; and what number_read and report store besides, none where
+// nothing is.
 #[derive(Clone, Copy)]
 struct Called {
     code: u8,
@@ -302,14 +305,16 @@ impl Tally {
     }
 }
 
-// The next bytes of the list; none where it ends before, or where they are not one of `buf`'s parts.
+// The next bytes of the list; none where it ends before, or where they are not one of `buf`'s
+// parts.
 fn next<'a>(list: &mut Stdin, buf: &'a mut [u8], n: usize) -> Option<&'a [u8]> {
     let bytes = buf.get_mut(..n)?;
     list.read_exact(bytes).ok()?;
     Some(bytes)
 }
 
-// What stands behind an entry's head: whether its call agrees; none if the list ends within the entry, or the entry is too long.
+// What stands behind an entry's head: whether its call agrees; none if the list ends within the
+// entry, or the entry is too long.
 fn judged(list: &mut Stdin, h: Head) -> Option<bool> {
     let mut body = [0u8; LONGEST];
     next(list, &mut body, h.due)?;

@@ -24,7 +24,8 @@ pub enum Operation {
     Report,
 }
 
-// All of them, each at its number: an array and no TryFrom, since the tallies are printed in its order.
+/// All of them, each at its number: an array and no TryFrom, since the tallies are printed in its
+/// order.
 pub const OPERATIONS: [Operation; 19] = [
     Operation::NumberSize,
     Operation::NumberRead,

@@ -1,5 +1,5 @@
--- What is sent again for the values that were read, place by place: nothing for a default of places 0 to 10, a number in its shortest form, any other
--- value as it came. Assumes nothing.
+-- What is sent again for the values that were read, place by place: nothing for a default of places
+-- 0 to 10, a number in its shortest form, any other value as it came. Assumes nothing.
 --     sent_again      of each place
 --     size_again      so that the tidied length is a sum over the places of what was read
 use Prim.Native.Nat.{ℕ, zero, suc, ◌+◌, ◌-◌, ◌<◌}

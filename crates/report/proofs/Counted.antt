@@ -1,4 +1,5 @@
--- What is counted of an extension that a side accepts, and that one pass counts it. Assumes nothing.
+-- What is counted of an extension that a side accepts, and that one pass counts it. Assumes
+-- nothing.
 --     counted_whole     its parameters are those that it is made of
 --     complete          the four counts make its length
 --     places_named      the known ones are the places that have a value
@@ -35,7 +36,7 @@ use Rattle.record.specs.Values.{value}
 use Rattle.tally.specs.Tally.{restates, skipped, restated, kept, count_as, count_of, fate_of, counts, dropped}
 use Rattle.index.specs.Index.{Found, nothing, index_from, kept_rules, indexed, counted, Sound}
 use Rattle.reader.specs.Reading.{step, parse, read}
-use Rattle.reader.specs.Kept.{record_from}
+use Rattle.reader.specs.Kept.{record_kept}
 use Rattle.reader.proofs.Agree.{Agrees, Related, related}
 use Rattle.reader.proofs.Indexed.{read_recorded, read_faulty}
 use Rattle.reader.proofs.Laws.{accepts, whole}
@@ -116,7 +117,7 @@ marks_named s e f h =
     go : (o : Result Fault Found) (q : Result Fault Values) → Related e o q → o ≡ accepted f → parse no_values e ≡ q → ones f.0 ≡ (counts (parameters e)).named
     go (accepted g) (accepted l) r h' k =
         let z : g ≡ f = cc in
-        rw (← z) (met_named e g l r.0 r.1) ∙ sym (places_named s e (record_from e f) l (read_recorded s e f h) k)
+        rw (← z) (met_named e g l r.0 r.1) ∙ sym (places_named s e (record_kept e f) l (read_recorded s e f h) k)
     go (accepted g) (refused x) r h' k = absurd r
     go (refused y) (accepted l) r h' k = absurd r
     go (refused y) (refused x) r h' k = cc
@@ -140,7 +141,7 @@ module _ (s : Side) (e : List ℕ) where
         record { found = f; was = fe; marks = ap (λ (j : ℕ × Sums). j.0) q; sums = ap (λ (j : ℕ × Sums). j.1) q }
 
     pub taken : d.skipped + d.restated + d.saved ≤ length e
-    taken = let p = passed in rw (← p.sums) (omega (arith, complete s e (record_from e p.found) hb (read_recorded s e p.found p.was)))
+    taken = let p = passed in rw (← p.sums) (omega (arith, complete s e (record_kept e p.found) hb (read_recorded s e p.found p.was)))
 
     -- whatever the code makes of them: what is left of the length, and the ones of the mask
     pub is_report : (t n : ℕ) → t + (d.skipped + d.restated + d.saved) ≡ length e → n ≡ ones m
@@ -149,7 +150,7 @@ module _ (s : Side) (e : List ℕ) where
     is_report t n x y =
         let p = passed in
         let k = read_recorded s e p.found p.was in
-        let c = complete s e (record_from e p.found) hb k in
+        let c = complete s e (record_kept e p.found) hb k in
         let z : t + ((counts (parameters e)).skipped + (counts (parameters e)).restated + (counts (parameters e)).saved) ≡ length e = rw (← p.sums) at x in
         let l : t ≡ (counts (parameters e)).tidied = omega (arith, c, z) in
         let o : n ≡ (counts (parameters e)).named = y ∙ rw (← p.marks) (marks_named s e p.found p.was) in

@@ -1,5 +1,6 @@
--- Sums over the places of what was read, against sums over the parameters that it was read from: where no place repeats, each known parameter adds
--- what its place counts. Nothing here names a place. Assumes nothing.
+-- Sums over the places of what was read, against sums over the parameters that it was read from:
+-- where no place repeats, each known parameter adds what its place counts. Nothing here names a
+-- place. Assumes nothing.
 --     read_gains     the two are the same
 use Prim.Native.Nat.{ℕ, zero, suc, ◌+◌, ◌<◌}
 use mathlib.Core.Path.{◌≡◌, refl, ap, sym, ◌∙◌}

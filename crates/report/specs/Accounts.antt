@@ -16,7 +16,8 @@ unfoldable pub named : Values → ℕ
 named l = sum places (λ p. pick (is_some (l p)) 1 0)
 
 pub record Accounts : Type 0 where
-  -- a side that refuses the extension refuses the report, with the same number, and the other way round
+  -- a side that refuses the extension refuses the report, with the same number, and the other way
+  -- round
   pub refused_alike : (s : Side) (e : List ℕ) (n : ℕ) → (report s e ≡ refused n) ↔ (read s e ≡ refused n)
   -- what is counted are whole parameters, and all of the extension
   pub whole : (s : Side) (e : List ℕ) (c : Counts) → report s e ≡ accepted c → Wholes (parameters e) × (concat (parameters e) ≡ e)

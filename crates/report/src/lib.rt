@@ -1,4 +1,5 @@
-// Where the bytes of an extension go: how long it is tidied, and what the rest is taken by. One pass, the one that reading makes.
+// Where the bytes of an extension go: how long it is tidied, and what the rest is taken by. One
+// pass, the one that reading makes.
 #![tactic(auto)]
 
 ghost use Rattle.std.specs.Prelude.{◌≡◌};
@@ -9,7 +10,8 @@ use refusal::Refusal;
 use rules::Side;
 use tally::Counts;
 
-// Reports on an extension for a side. What the three sums leave is the tidied length; each known parameter has marked its place.
+/// Reports on an extension for a side. What the three sums leave is the tidied length; each known
+/// parameter has marked its place.
 pub fn report(side: Side, src: &[u8]) -> Result<Counts, Refusal>
     ensures { outcome_of result ≡ report side src.now }
 {

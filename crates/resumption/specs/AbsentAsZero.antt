@@ -1,5 +1,5 @@
--- For resumption a max_datagram_frame_size that is absent and one of 0 are the same (RFC 9221 section 3): on either side, everything else equal.
--- They stay two records.
+-- For resumption a max_datagram_frame_size that is absent and one of 0 are the same (RFC 9221
+-- section 3): on either side, everything else equal. They stay two records.
 use Rattle.std.specs.Prelude.{ℕ, ◌≡◌}
 use Rattle.refusal.specs.Outcome.{accepted}
 use Rattle.record.specs.declared.TransportParameters.{TransportParameters}

@@ -1,5 +1,5 @@
--- Resumption from remembered parameters (RFC 9000 section 7.4.1, RFC 9221 section 3, RFC 9287 section 3), and how many connection IDs are
--- issued to a peer (RFC 9000 section 18.2).
+-- Resumption from remembered parameters (RFC 9000 section 7.4.1, RFC 9221 section 3, RFC 9287
+-- section 3), and how many connection IDs are issued to a peer (RFC 9000 section 18.2).
 use Rattle.std.specs.Prelude.{ℕ, min, List, [], ◌∷◌, Bool, ◌&&◌, ◌||◌, not, get_or, leb}
 use Rattle.refusal.specs.Outcome.{Outcome, accepted, refused, pick, all}
 use Rattle.record.specs.declared.TransportParameters.{TransportParameters}
@@ -7,8 +7,9 @@ use Rattle.record.specs.Optional.{OptionalNumber}
 use Rattle.words.specs.Words.{every}
 use Rattle.record.specs.Record.{least, well_formed}
 
--- the places of the limits that are remembered for 0-RTT (RFC 9000 section 7.4.1): active_connection_id_limit, initial_max_data,
--- initial_max_stream_data_bidi_local, _bidi_remote and _uni, initial_max_streams_bidi and _uni
+-- the places of the limits that are remembered for 0-RTT (RFC 9000 section 7.4.1):
+-- active_connection_id_limit, initial_max_data, initial_max_stream_data_bidi_local, _bidi_remote
+-- and _uni, initial_max_streams_bidi and _uni
 unfoldable pub remembered : List ℕ
 remembered = 10 ∷ 2 ∷ 3 ∷ 4 ∷ 5 ∷ 6 ∷ 7 ∷ []
 
@@ -35,6 +36,7 @@ unfoldable pub resume : TransportParameters → TransportParameters → Outcome 
 resume new cached =
     pick (well_formed new && well_formed cached) (pick (nothing_reduced new cached) (accepted tt) (refused 8)) (refused 7)
 
--- how many connection IDs are issued to the peer of a record: as many as its active_connection_id_limit takes, and at most 8
+-- how many connection IDs are issued to the peer of a record: as many as its
+-- active_connection_id_limit takes, and at most 8
 unfoldable pub issue_limit : TransportParameters → ℕ
 issue_limit r = min (get_or r.numbers 10 0) 8

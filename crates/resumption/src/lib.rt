@@ -1,5 +1,5 @@
-// Resumption from remembered parameters, and how many connection IDs to issue: `validate_resumption_from` and `issue_cids_limit` of
-// quinn's transport_parameters.rs.
+// Resumption from remembered parameters, and how many connection IDs to issue:
+// `validate_resumption_from` and `issue_cids_limit` of quinn's transport_parameters.rs.
 #![tactic(auto)]
 
 ghost use Rattle.std.specs.Prelude.{◌≡◌, leb};
@@ -53,27 +53,27 @@ fn nothing_reduced(new: &TransportParameters, cached: &TransportParameters) -> b
         & (!cached.grease_quic_bit | new.grease_quic_bit)
 }
 
-// Whether 0-RTT may go on with new parameters, given those remembered.
+/// Whether 0-RTT may go on with new parameters, given those remembered.
 #[tactic(auto, unfolding(crate::specs::Resumption::resume))]
 pub fn validate_resumption_from(
-    new: TransportParameters,
-    cached: TransportParameters,
+    new: &TransportParameters,
+    cached: &TransportParameters,
 ) -> Result<(), Refusal>
-    ensures { outcome_of result ≡ resume new cached }
+    ensures { outcome_of result ≡ resume new.now cached.now }
 {
     if !(new.is_well_formed() & cached.is_well_formed()) {
         return Err(Refusal::IllFormed);
     }
-    if !nothing_reduced(&new, &cached) {
+    if !nothing_reduced(new, cached) {
         return Err(Refusal::LimitReduced);
     }
     Ok(())
 }
 
-// How many connection IDs to issue to the peer of this record.
+/// How many connection IDs to issue to the peer of this record.
 #[tactic(auto, unfolding(crate::specs::Resumption::issue_limit))]
-pub fn issue_cids_limit(r: TransportParameters) -> u64
-    ensures { result ≡ issue_limit r }
+pub fn issue_cids_limit(r: &TransportParameters) -> u64
+    ensures { result ≡ issue_limit r.now }
 {
     r.numbers[ACTIVE_CONNECTION_ID_LIMIT].min(LOC_CID_COUNT)
 }

@@ -13,7 +13,8 @@ abbrev pub is_server : Side → Bool
 is_server Client = false
 is_server Server = true
 
--- the value rules (RFC 9000 sections 4.6 and 18.2, draft-ietf-quic-ack-frequency-08 section 3): of the numbers, with the minimum delay
+-- the value rules (RFC 9000 sections 4.6 and 18.2, draft-ietf-quic-ack-frequency-08 section 3): of
+-- the numbers, with the minimum delay
 unfoldable pub number_rules : List ℕ → ℕ → Bool
 number_rules ns delay =
     all (
@@ -30,12 +31,14 @@ number_rules ns delay =
     ∷ []
     )
 
--- of what else is present: no server is sent original_dst_cid, preferred_address, retry_src_cid or the token; an address has an ID
+-- of what else is present: no server is sent original_dst_cid, preferred_address, retry_src_cid or
+-- the token; an address has an ID
 unfoldable pub presence_rules : Bool → Bool → Bool → Bool → Bool → ℕ → Bool
 presence_rules server original address retry token id_len =
     all (not (server && (original || (address || (retry || token)))) ∷ not (address && eqb id_len 0) ∷ [])
 
--- of version information (RFC 9368 section 3): no version is 0; and for a server the chosen one is available
+-- of version information (RFC 9368 section 3): no version is 0; and for a server the chosen one is
+-- available
 unfoldable pub version_rules : Bool → VersionInformation → Bool
 version_rules server i =
     not i.present

@@ -1,4 +1,5 @@
-// The value rules (RFC 9000 sections 4.6 and 18.2, RFC 9368 section 3, draft-ietf-quic-ack-frequency-08 section 3), and checking a record for the side that reads it.
+// The value rules (RFC 9000 sections 4.6 and 18.2, RFC 9368 section 3,
+// draft-ietf-quic-ack-frequency-08 section 3), and checking a record for the side that reads it.
 #![tactic(auto)]
 
 ghost use Rattle.std.specs.Prelude.{◌≡◌, ◌*◌, leb};
@@ -14,7 +15,8 @@ use record::{PreferredAddress, TransportParameters};
 use refusal::Refusal;
 use version_information::VersionInformation;
 
-// The side that reads an extension, or for which it is written: the other side is the one that speaks.
+/// The side that reads an extension, or for which it is written: the other side is the one that
+/// speaks.
 #[derive(Clone, Copy, Debug, PartialEq, Eq)]
 pub enum Side {
     Client,
@@ -23,7 +25,7 @@ pub enum Side {
 
 const MAX_STREAM_COUNT: u64 = 1 << 60;
 
-// The units of min_ack_delay and max_ack_delay.
+/// The units of min_ack_delay and max_ack_delay.
 #[derive(Clone, Copy, Debug, PartialEq, Eq)]
 pub struct Microseconds(pub u64);
 
@@ -31,8 +33,8 @@ pub struct Microseconds(pub u64);
 pub struct Milliseconds(pub u64);
 
 impl Milliseconds {
-    // Whether a time in microseconds is no longer than this one, which is longer than any if it does not fit. No `From` and `<=`: a conversion that
-    // saturates is none.
+    /// Whether a time in microseconds is no longer than this one, which is longer than any if it
+    /// does not fit. No `From` and `<=`: a conversion that saturates is none.
     pub fn covers(self, shorter: Microseconds) -> bool
         ensures { result ≡ leb shorter.0 (1000 * self.0) }
     {
@@ -40,8 +42,9 @@ impl Milliseconds {
     }
 }
 
-// What the value rules ask of a record, but for its numbers: which of these are present, and the length of the preferred address's ID.
-// No Option for address and length: it has no room for a length beside an absent address, of which the definition speaks.
+/// What the value rules ask of a record, but for its numbers: which of these are present, and the
+/// length of the preferred address's ID. No Option for address and length: it has no room for a
+/// length beside an absent address, of which the definition speaks.
 #[derive(Clone, Copy, Debug, PartialEq, Eq)]
 pub struct Presence {
     pub original: bool,
@@ -51,7 +54,7 @@ pub struct Presence {
     pub id_len: u8,
 }
 
-// The value rules of the numbers, with the minimum delay (0 if there is none).
+/// The value rules of the numbers, with the minimum delay (0 if there is none).
 #[tactic(auto, unfolding(refusal::specs::Outcome::all, crate::specs::Rules::number_rules))]
 pub fn numbers_allowed(n: &[u64; NUMBERS], min_ack_delay: Microseconds) -> bool
     ensures { result ≡ number_rules n.now min_ack_delay.0 }
@@ -65,16 +68,17 @@ pub fn numbers_allowed(n: &[u64; NUMBERS], min_ack_delay: Microseconds) -> bool
         & Milliseconds(n[MAX_ACK_DELAY]).covers(min_ack_delay)
 }
 
-// The value rules of what is present.
+/// The value rules of what is present.
 #[tactic(auto, unfolding(refusal::specs::Outcome::all, crate::specs::Rules::presence_rules))]
 pub fn presence_allowed(side: Side, p: Presence) -> bool
-    ensures { result ≡ presence_rules (is_server side) p.original p.address p.retry p.token p.id_len }
+    ensures { result
+        ≡ presence_rules (is_server side) p.original p.address p.retry p.token p.id_len }
 {
     let server_only = p.original | p.address | p.retry | p.token;
     !((side == Side::Server) & server_only) & !(p.address & (p.id_len == 0))
 }
 
-// The value rules of version information.
+/// The value rules of version information.
 #[tactic(auto, unfolding(refusal::specs::Outcome::all, crate::specs::Rules::version_rules))]
 pub fn versions_allowed(side: Side, v: &VersionInformation) -> bool
     ensures { result ≡ version_rules (is_server side) v.now }
@@ -99,7 +103,7 @@ fn families_allowed(a: &PreferredAddress) -> bool
 
 // Whether the value rules hold of a record.
 #[tactic(auto, unfolding(refusal::specs::Outcome::all, crate::specs::Rules::value_rules))]
-fn is_allowed(r: &TransportParameters, side: Side) -> bool
+fn is_allowed(side: Side, r: &TransportParameters) -> bool
     ensures { result ≡ value_rules side r.now }
 {
     let presence = Presence {
@@ -114,15 +118,15 @@ fn is_allowed(r: &TransportParameters, side: Side) -> bool
         & versions_allowed(side, &r.version_information)
 }
 
-// Checks a record for the side that reads it.
+/// Checks a record for the side that reads it.
 #[tactic(auto, unfolding(refusal::specs::Outcome::all, crate::specs::Rules::legal, crate::specs::Rules::check_record))]
-pub fn check(r: TransportParameters, side: Side) -> Result<(), Refusal>
-    ensures { outcome_of result ≡ check_record side r }
+pub fn check(side: Side, r: &TransportParameters) -> Result<(), Refusal>
+    ensures { outcome_of result ≡ check_record side r.now }
 {
     if !r.is_well_formed() {
         return Err(Refusal::IllFormed);
     }
-    if !(families_allowed(&r.preferred_address) & is_allowed(&r, side)) {
+    if !(families_allowed(&r.preferred_address) & is_allowed(side, r)) {
         return Err(Refusal::IllegalValue);
     }
     Ok(())

@@ -5,7 +5,8 @@ use Rattle.words.specs.Words.{every, bytes_of}
 use Rattle.show.specs.declared.versions.VersionName.{VersionName}
 use Rattle.show.specs.declared.versions.VersionName.TheVariants.{V1, V2, Reserved}
 
--- RESERVED to exercise the negotiation of versions are those of the form 0x?a?a?a?a (RFC 9000 section 15)
+-- RESERVED to exercise the negotiation of versions are those of the form 0x?a?a?a?a (RFC 9000
+-- section 15)
 abbrev pub ends_in_a : ℕ → Bool
 ends_in_a b = eqb (b % 16) 10
 

@@ -1,4 +1,5 @@
-// Shows a record by its image, a line for each parameter: its name, its value and its unit. The text form of a record has the same lines.
+// Shows a record by its image, a line for each parameter: its name, its value and its unit. The
+// text form of a record has the same lines.
 #![tactic(auto)]
 
 pub mod rows;
@@ -26,7 +27,7 @@ fn part<'a>(image: &'a [u8], at: usize, n: usize) -> &'a [u8] {
     rest.get(..n).unwrap_or(rest)
 }
 
-// An ID, behind its length.
+/// An ID, behind its length.
 #[derive(Clone, Copy)]
 pub struct ConnectionId<'a>(pub &'a [u8]);
 
@@ -56,7 +57,8 @@ impl<'a> Display for V4<'a> {
     }
 }
 
-// An IPv6 address. Two types and no generic one: the parts, what stands between them and their digits differ.
+// An IPv6 address. Two types and no generic one: the parts, what stands between them and their
+// digits differ.
 #[derive(Clone, Copy)]
 struct V6<'a>(&'a [u8]);
 
@@ -140,8 +142,9 @@ fn show_parts(out: &mut Out, image: &[u8])
     }
 }
 
-// The places of the catalogue, without the reserved parameter's; the parts of an address behind it, if it is there.
-// What a stream is given has no definition here: the clause says what becomes of the answer.
+/// The places of the catalogue, without the reserved parameter's; the parts of an address behind
+/// it, if it is there. What a stream is given has no definition here: the clause says what becomes
+/// of the answer.
 #[tactic(auto, using(text::proofs::Printing::unchanged, text::proofs::Printing::becomes_then))]
 pub fn show(out: &mut Out, image: &[u8])
     ensures { Becomes Stream.Output out.old.fate out.new.fate }

@@ -1,5 +1,5 @@
-// The rows of a record's text form: the places of the catalogue, the parts of a preferred address, and the order; their names, what each holds, and
-// where it stands in the image of a record.
+// The rows of a record's text form: the places of the catalogue, the parts of a preferred address,
+// and the order; their names, what each holds, and where it stands in the image of a record.
 ghost use Rattle.std.specs.Prelude.{◌≡◌, ◌<◌, ◌++◌, [], map, IfSome};
 ghost use Rattle.std.specs.List.{slice_index_or};
 
@@ -7,7 +7,7 @@ use catalogue::{NAMES, PLACES};
 use std::fmt;
 use std::fmt::Display;
 
-// The unit of a number.
+/// The unit of a number.
 #[derive(Clone, Copy)]
 pub enum Unit {
     Plain,
@@ -31,23 +31,23 @@ impl Display for Unit {
     }
 }
 
-// What a row holds.
+/// What a row holds.
 #[derive(Clone, Copy)]
 pub enum Kind {
-    // a number that is always there, by its unit
+    /// a number that is always there, by its unit
     Number(Unit),
-    // one that may be absent
+    /// one that may be absent
     OptionalNumber(Unit),
     Flag,
-    // whether there is a preferred address; its parts have rows of their own
+    /// whether there is a preferred address; its parts have rows of their own
     Address,
     Token,
     ConnectionId,
-    // an identifier, and a payload behind its length
+    /// an identifier, and a payload behind its length
     Reserved,
-    // the chosen version and sixteen places of available ones, behind how many of these there are
+    /// the chosen version and sixteen places of available ones, behind how many of these there are
     Versions,
-    // the parts of an address
+    /// the parts of an address
     V4,
     V6,
     AddressId,
@@ -55,13 +55,13 @@ pub enum Kind {
     Order,
 }
 
-// Where the image of a record says that there is a preferred address.
+/// Where the image of a record says that there is a preferred address.
 pub const ADDRESS_FLAG: usize = 191;
 
-// Where the order stands in it.
+/// Where the order stands in it.
 pub const ORDER_AT: usize = 282;
 
-// A row: what it holds, and where its value starts in the image of a record.
+/// A row: what it holds, and where its value starts in the image of a record.
 #[derive(Clone, Copy)]
 pub struct Row(pub Kind, u16);
 
@@ -72,7 +72,8 @@ impl Row {
         usize::from(self.1)
     }
 
-    // Where its flag stands, if it may be absent: before its value, but the ID and the token of an address have the address's.
+    /// Where its flag stands, if it may be absent: before its value, but the ID and the token of an
+    /// address have the address's.
     pub fn flag_at(self) -> Option<usize>
         ensures { IfSome result (λ at. at < 65536) }
     {
@@ -84,7 +85,7 @@ impl Row {
     }
 }
 
-// The places of the catalogue come first, each at its place.
+/// The places of the catalogue come first, each at its place.
 pub const ROWS: [Row; 27] = [
     Row(Kind::Number(Unit::Milliseconds), 0),
     Row(Kind::Number(Unit::Bytes), 8),
@@ -115,8 +116,8 @@ pub const ROWS: [Row; 27] = [
     Row(Kind::Order, ORDER_AT as u16),
 ];
 
-// The names of those behind the places. A row holds no name of its own: a constant cannot take `NAMES[0]`, and the catalogue's names would stand here
-// again.
+// The names of those behind the places. A row holds no name of its own: a constant cannot take
+// `NAMES[0]`, and the catalogue's names would stand here again.
 const PART_NAMES: [&str; 5] = [
     "preferred_address_v4",
     "preferred_address_v6",
@@ -125,7 +126,7 @@ const PART_NAMES: [&str; 5] = [
     "order",
 ];
 
-// The name of row `i`; empty if there is none.
+/// The name of row `i`; empty if there is none.
 pub fn name_of(i: usize) -> &'static str
     ensures { result.now ≡ slice_index_or (map (λ name. name.now) (NAMES ++ PART_NAMES)) i [] }
 {
@@ -138,10 +139,13 @@ pub fn name_of(i: usize) -> &'static str
     }
 }
 
-// The row of this name, and its number.
+/// The row of this name, and its number.
 pub fn row_named(name: &[u8]) -> Option<(usize, Row)>
-    ensures row { IfSome result (λ found. (found.0 < 27) × (found.1 ≡ slice_index_or ROWS found.0 found.1)) }
-    ensures named { IfSome result (λ found. name.now ≡ slice_index_or (map (λ name. name.now) (NAMES ++ PART_NAMES)) found.0 []) }
+    ensures row { IfSome result
+        (λ found. (found.0 < 27) × (found.1 ≡ slice_index_or ROWS found.0 found.1)) }
+    ensures named { IfSome result
+        (λ found. name.now
+        ≡ slice_index_or (map (λ name. name.now) (NAMES ++ PART_NAMES)) found.0 []) }
 {
     let i = (0..ROWS.len()).find(|i| name_of(*i).as_bytes() == name)?;
     let row = ROWS.get(i)?;

@@ -30,7 +30,7 @@ fn is_reserved(version: u32) -> bool
     version.to_be_bytes().iter().all(|b| b % 16 == 10)
 }
 
-// The name of a version, if it has one.
+/// The name of a version, if it has one.
 #[tactic(auto, unfolding(crate::specs::Versions::version_name))]
 pub fn version_name(version: u32) -> Option<VersionName>
     ensures { result ≡ version_name version }
@@ -57,7 +57,7 @@ impl Display for Version {
     }
 }
 
-// The chosen version and those that are available, behind how many of these there are.
+/// The chosen version and those that are available, behind how many of these there are.
 #[derive(Clone, Copy)]
 pub struct Versions<'a>(pub &'a [u8]);
 

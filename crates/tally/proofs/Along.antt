@@ -1,6 +1,7 @@
 -- What a scan of an extension adds up, as far as it has come. Assumes nothing.
 --     start, done             at the front nothing, and at the end all
---     skip, restate, keep     over a parameter that is unknown, that restates a default, or that is sent again
+--     skip, restate, keep     over a parameter that is unknown, that restates a default, or that is
+--                             sent again
 use Prim.Native.Nat.{ℕ, ◌+◌, ◌-◌, ◌≤◌, ◌<◌}
 use mathlib.Core.Path.{◌≡◌, refl, ap, sym, ◌∙◌, subst}
 use mathlib.Core.List.{List, []}
@@ -30,7 +31,8 @@ use Rattle.tally.specs.declared.Sums.{Sums}
 use Rattle.tally.specs.Tally.{restates, skipped, restated, kept, fate_of, saved_value, count_as, count_of, counts, dropped}
 use Rattle.tally.proofs.Turn.{Own, own, turn}
 
--- so far t, and what is from a position on, make all; and they are no more than the bytes that they are counted in
+-- so far t, and what is from a position on, make all; and they are no more than the bytes that they
+-- are counted in
 pub record Along (s : List ℕ) (at : ℕ) (t : Sums) : Type 0 where
   pub skipped : t.skipped + (counts (parameters (drop at s))).skipped ≡ (counts (parameters s)).skipped
   pub restated : t.restated + (counts (parameters (drop at s))).restated ≡ (counts (parameters s)).restated

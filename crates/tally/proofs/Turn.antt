@@ -1,4 +1,5 @@
--- A parameter of an extension, cut out of the bytes that it stands in, and the counts from it on. Assumes nothing.
+-- A parameter of an extension, cut out of the bytes that it stands in, and the counts from it on.
+-- Assumes nothing.
 --     head_at      what shorter forms of its identifier and length would have saved
 --     own          a parameter, cut out of the bytes that it stands in
 --     turn         the counts from it on are what it adds, and the counts behind it
@@ -22,7 +23,8 @@ use Rattle.front.proofs.Split.{CutOut, cut_out_lem}
 use Rattle.front.proofs.Parts.{parameters_front}
 use Rattle.front.proofs.Position.{cut_out, located_front, within}
 
--- bytes that are a parameter: identifier and value, and what shorter forms of identifier and length would have saved
+-- bytes that are a parameter: identifier and value, and what shorter forms of identifier and length
+-- would have saved
 pub record Own (w : List ℕ) (id : ℕ) (v : List ℕ) (n : ℕ) : Type 0 where
   pub is : read_parameter w ≡ accepted (id, v, [])
   pub head : saved_head w ≡ n

@@ -1,5 +1,6 @@
--- Where the bytes of an extension go. Each of its whole parameters is skipped, restates a default, or is sent again in its shortest form; what it
--- adds to each count is settled by its own bytes, and a count is the sum over them.
+-- Where the bytes of an extension go. Each of its whole parameters is skipped, restates a default,
+-- or is sent again in its shortest form; what it adds to each count is settled by its own bytes,
+-- and a count is the sum over them.
 use Rattle.std.specs.Prelude.{ℕ, ◌+◌, List, [], ◌∷◌, Bool, ◌&&◌, length, get_or, ltb, eqb}
 use Rattle.refusal.specs.Outcome.{Result, accepted, refused, pick}
 use Rattle.varint.specs.Number.{read_number, number_bytes}

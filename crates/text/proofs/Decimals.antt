@@ -5,8 +5,10 @@
 --     kept_more         a number as it is kept, with one more digit
 --     not_every         a character that fails
 --     more, rest, every_more, decimal_more    one more character
---     strange, empty, whole       what a text is: by a character that is no digit, without characters, and with none but digits
---     byte_before, less      one more byte of a number, before those that are stored; the number without it
+--     strange, empty, whole       what a text is: by a character that is no digit, without
+--                                 characters, and with none but digits
+--     byte_before, less      one more byte of a number, before those that are stored; the number
+--                            without it
 use Prim.Native.Nat.{ℕ, zero, suc, ◌+◌, ◌-◌, ◌*◌, ◌/◌, ◌%◌, ◌^◌, ◌≤◌, ◌<◌}
 use mathlib.Core.Path.{◌≡◌, refl, ap, ◌∙◌}
 use mathlib.Core.List.{List, [], ◌∷◌, ◌++◌}

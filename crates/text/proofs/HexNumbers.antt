@@ -1,7 +1,8 @@
 -- Laws of the number that hexadecimal digits make. Assumes nothing.
 --     no_digit          a character that is none
 --     empty, long, strange    texts that are no number
---     Read              what is so of the first i characters, digits that make v; and what follows from it:
+--     Read              what is so of the first i characters, digits that make v; and what follows
+--                       from it:
 --       start, read_more    before the first, and one character later
 --       room, whole    there is room for one more digit; and what the whole text is
 use Prim.Native.Nat.{ℕ, ◌+◌, ◌*◌, ◌^◌, ◌≤◌, ◌<◌}

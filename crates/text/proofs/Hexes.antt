@@ -1,7 +1,8 @@
 -- Laws of hexadecimal numbers. Assumes nothing.
 --     digit_kept, digit_lost    a digit that was stored, and one that was not
 --     put_more          the buffer with one more digit
---     Met               what is so behind the first i characters, n of them digits; and what follows from it:
+--     Met               what is so behind the first i characters, n of them digits; and what
+--                       follows from it:
 --       past_gap, past_digit    one character later
 --       is_strange, is_long, is_odd, is_bytes    what the whole text is
 use Prim.Native.Nat.{ℕ, suc, ◌+◌, ◌*◌, ◌/◌, ◌%◌, ◌≤◌, ◌<◌}

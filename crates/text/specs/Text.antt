@@ -1,5 +1,5 @@
--- What text holds: words, decimal and hexadecimal numbers; and what storing them leaves in a buffer. Characters are bytes, and `sets` stores
--- bytes from a place on, as far as there is room.
+-- What text holds: words, decimal and hexadecimal numbers; and what storing them leaves in a
+-- buffer. Characters are bytes, and `sets` stores bytes from a place on, as far as there is room.
 use Rattle.std.specs.Prelude.{ℕ, zero, suc, ◌≡◌, ◌<◌, ◌+◌, ◌-◌, ◌*◌, ◌/◌, ◌%◌, ◌^◌, min, Bool, true, false, ◌&&◌, ◌||◌, not, List, [], ◌∷◌, length, get_or, take, drop, set, eqb, leb, ltb, Option, Some, None, Result, Ok, Err}
 use Rattle.std.proofs.lemmas.List.Edits.{sets}
 use Rattle.std.specs.Int.Bits.{bit_or}
@@ -22,7 +22,8 @@ is_gap sep b = pick (eqb sep 10) (eqb b sep) (eqb b 32 || (eqb b 9 || (eqb b 10 
 abbrev pub in_range : ℕ → ℕ → ℕ → Bool
 in_range low high b = leb low b && leb b high
 
--- the digit 0 to 15 that a character is, of 0 to 9, a to f and A to F; 16 for a gap or a colon, 17 for any other
+-- the digit 0 to 15 that a character is, of 0 to 9, a to f and A to F; 16 for a gap or a colon, 17
+-- for any other
 unfoldable pub digit_of : ℕ → ℕ
 digit_of b =
     pick (in_range 48 57 b) (b - 48)
@@ -76,7 +77,8 @@ kept v = pick (ltb (v / 10) (2 ^ 60)) v (2 ^ 64 - 1)
 unfoldable pub decimal : List ℕ → Option ℕ
 decimal text = pick (ltb 0 (length text) && every (in_range 48 57) text) (Some (kept (decimal_from 0 text))) None
 
--- the number of a text, if it is one of at most `most`, stored in n bytes, high byte first; and whether it is
+-- the number of a text, if it is one of at most `most`, stored in n bytes, high byte first; and
+-- whether it is
 abbrev pub number_stored : ℕ → ℕ → ℕ → List ℕ → Option ℕ → Bool × List ℕ
 number_stored most at n out (Some x) = pick (leb x most) (true, sets out at (bytes_of n x)) (false, out)
 number_stored most at n out None = (false, out)
@@ -91,7 +93,8 @@ abbrev pub byte_words : ℕ → List ℕ → ℕ → ℕ → List ℕ
 byte_words sep text zero k = []
 byte_words sep text (suc m) k = listed (decimal (word_at sep k text)) (byte_words sep text m (suc k))
 
--- the words from word `from` up to word `to`, which is none of them, stored as bytes; and whether each is one and there is no word `to`
+-- the words from word `from` up to word `to`, which is none of them, stored as bytes; and whether
+-- each is one and there is no word `to`
 unfoldable pub list_stored : List ℕ → ℕ → ℕ → ℕ → ℕ → List ℕ → Bool × List ℕ
 list_stored text from to sep at out = (
   eqb (length (byte_words sep text (to - from) from)) (to - from) && eqb (length (word_at sep to text)) 0,
@@ -119,14 +122,16 @@ packed (h ∷ l ∷ ds) = (h * 16 + l) ∷ packed ds
 abbrev pub fitting : ℕ → ℕ → List ℕ → ℕ
 fitting at room out = min room (length out - at)
 
--- what hexadecimal text is where there is room for some bytes. Of a strange character and a digit too many, the first counts
+-- what hexadecimal text is where there is room for some bytes. Of a strange character and a digit
+-- too many, the first counts
 unfoldable pub hex_text : List ℕ → ℕ → Result ℕ HexError
 hex_text text room =
     pick (ltb (2 * room) (length (digits_in (known text)))) (Err Long)
     (pick (ltb (length (known text)) (length text)) (Err (Strange (length (known text))))
     (pick (eqb (length (digits_in (known text)) % 2) 1) (Err Odd) (Ok (length (digits_in (known text)) / 2))))
 
--- what text is, and the buffer with the bytes that it holds, as far as there is room. The digits before a strange character are stored too
+-- what text is, and the buffer with the bytes that it holds, as far as there is room. The digits
+-- before a strange character are stored too
 unfoldable pub hex_stored : List ℕ → ℕ → ℕ → List ℕ → Result ℕ HexError × List ℕ
 hex_stored text at room out =
     (hex_text text (fitting at room out), sets out at (take (fitting at room out) (packed (digits_in (known text)))))
@@ -153,7 +158,8 @@ are_sixteen (Err e) = false
 abbrev pub sixteen_stored : Result ℕ HexError × List ℕ → Bool × List ℕ
 sixteen_stored h = (are_sixteen h.0, h.1)
 
--- the digit behind n others, stored if its byte is one of `room` bytes and there is that byte; and whether it is
+-- the digit behind n others, stored if its byte is one of `room` bytes and there is that byte; and
+-- whether it is
 unfoldable pub digit_stored : ℕ → ℕ → ℕ → ℕ → List ℕ → Bool × List ℕ
 digit_stored at room n d out =
     pick (ltb (n / 2) room)

@@ -10,18 +10,18 @@ ghost use Rattle.text.specs.Text.{stored, is_gap, past_word, word_at, words_in, 
 
 pub mod out;
 
-// Why hexadecimal text holds no bytes, or too many.
+/// Why hexadecimal text holds no bytes, or too many.
 #[derive(Clone, Copy, Debug, PartialEq, Eq)]
 pub enum HexError {
-    // a character that is neither a digit nor a gap, by its place in the text
+    /// a character that is neither a digit nor a gap, by its place in the text
     Strange(usize),
-    // an odd number of digits
+    /// an odd number of digits
     Odd,
-    // more bytes than there is room for
+    /// more bytes than there is room for
     Long,
 }
 
-// Byte `i` from `at` on; 0 if there is none.
+/// Byte `i` from `at` on; 0 if there is none.
 pub fn byte(bytes: &[u8], at: usize, i: usize) -> u8
     ensures { result ≡ get_or bytes.now (at + i) 0 }
 {
@@ -29,8 +29,9 @@ pub fn byte(bytes: &[u8], at: usize, i: usize) -> u8
     bytes.get(place).copied().unwrap_or(0)
 }
 
-// Stores byte `i` from `at` on; tells whether there is room. A bool: most callers leave it, and an Option<()> would be made to be dropped. Here and below a
-// buffer and a place are no slice from that place on: each caller would have to show that the place lies within.
+/// Stores byte `i` from `at` on; tells whether there is room. A bool: most callers leave it, and an
+/// Option<()> would be made to be dropped. Here and below a buffer and a place are no slice from
+/// that place on: each caller would have to show that the place lies within.
 pub fn set(out: &mut [u8], at: usize, i: usize, b: u8) -> bool
     ensures { (result, out.new) ≡ stored (at + i) b out.old }
 {
@@ -56,8 +57,9 @@ fn is_gap(b: u8, sep: u8) -> bool
     }
 }
 
-// Where the first word of the text begins. It and the next are functions of their own: in `split_word` the proof of their chains didn't close; and
-// two, since one of both by a closure is as long.
+// Where the first word of the text begins. It and the next are functions of their own: in
+// `split_word` the proof of their chains didn't close; and two, since one of both by a closure is
+// as long.
 fn find_word(text: &[u8], sep: u8) -> Option<usize>
     ensures { result ≡ position (λ b. not (is_gap sep b)) text.now }
 {
@@ -82,7 +84,7 @@ fn split_word<'a>(text: &'a [u8], sep: u8) -> (&'a [u8], &'a [u8])
     rest.split_at(end)
 }
 
-// The words of a text that are still to come.
+/// The words of a text that are still to come.
 #[derive(Drop)]
 pub struct Words<'a> {
     rest: &'a [u8],
@@ -107,14 +109,15 @@ impl<'a> Iterator for Words<'a> {
     }
 }
 
-// The words of a text, one after another. With the end of a line for `sep` its lines, those that are not empty.
+/// The words of a text, one after another. With the end of a line for `sep` its lines, those that
+/// are not empty.
 pub fn words_of<'a>(text: &'a [u8], sep: u8) -> Words<'a>
     ensures { (result.rest.now ≡ text.now) × (result.sep ≡ sep) }
 {
     Words { rest: text, sep }
 }
 
-// Word `k` of the text, counted from 0; empty if there are fewer.
+/// Word `k` of the text, counted from 0; empty if there are fewer.
 pub fn word<'a>(text: &'a [u8], k: usize, sep: u8) -> &'a [u8]
     ensures { result.now ≡ word_at sep k text.now }
 {
@@ -159,7 +162,8 @@ fn put_digit(out: &mut [u8], at: usize, room: usize, digits: usize, d: u8) -> bo
     set(out, at, k, high | d)
 }
 
-// Puts the bytes that hexadecimal text holds into `out` from `at` on, at most `room` of them, and tells how many. Gaps and colons are skipped.
+/// Puts the bytes that hexadecimal text holds into `out` from `at` on, at most `room` of them, and
+/// tells how many. Gaps and colons are skipped.
 pub fn parse_hex(text: &[u8], out: &mut [u8], at: usize, room: usize) -> Result<usize, HexError>
     ensures { (result, out.new) ≡ hex_stored text.now at room out.old }
 {
@@ -182,7 +186,8 @@ pub fn parse_hex(text: &[u8], out: &mut [u8], at: usize, room: usize) -> Result<
     Ok(digits / 2)
 }
 
-// The number and one more digit. Whatever is not below 2^62 then may grow further: no operation takes it.
+// The number and one more digit. Whatever is not below 2^62 then may grow further: no operation
+// takes it.
 fn appended(value: u64, digit: u8) -> u64
     ensures { result ≡ pick (leb (2 ^ 60) value) (2 ^ 64 - 1) (10 * value + digit) }
 {
@@ -227,8 +232,9 @@ fn parse_hex_number(digits: &[u8]) -> Option<u32>
     Some(value)
 }
 
-// Stores a number in `n` bytes, high byte first. Byte by byte: `to_be_bytes` gives eight, and `n` may be more, which are zeros then.
-fn put_bytes(out: &mut [u8], at: usize, n: usize, x: u64)
+// Stores a number in `n` bytes, high byte first. Byte by byte: `to_be_bytes` gives eight, and `n`
+// may be more, which are zeros then.
+fn put_low_bytes(out: &mut [u8], at: usize, n: usize, x: u64)
     ensures { out.new ≡ sets out.old at (bytes_of n x) }
 {
     let mut rest = x;
@@ -238,29 +244,31 @@ fn put_bytes(out: &mut [u8], at: usize, n: usize, x: u64)
     }
 }
 
-// A decimal number of at most `most`, in `n` bytes; none if it is none.
+/// A decimal number of at most `most`, in `n` bytes; none if it is none.
 pub fn put_number(digits: &[u8], most: u64, out: &mut [u8], at: usize, n: usize) -> Option<()>
     ensures { (is_some result, out.new) ≡ number_stored most at n out.old (decimal digits.now) }
 {
     match parse_decimal(digits) {
         Some(x) if x <= most => {
-            put_bytes(out, at, n, x);
+            put_low_bytes(out, at, n, x);
             Some(())
         }
         _ => None,
     }
 }
 
-// The number of one to eight hexadecimal digits, in four bytes; none if it is none.
+/// The number of one to eight hexadecimal digits, in four bytes; none if it is none.
 pub fn put_hex_number(digits: &[u8], out: &mut [u8], at: usize) -> Option<()>
-    ensures { (is_some result, out.new) ≡ number_stored (2 ^ 32 - 1) at 4 out.old (hex_number digits.now) }
+    ensures { (is_some result, out.new)
+        ≡ number_stored (2 ^ 32 - 1) at 4 out.old (hex_number digits.now) }
 {
     let x = parse_hex_number(digits)?;
-    put_bytes(out, at, 4, u64::from(x));
+    put_low_bytes(out, at, 4, u64::from(x));
     Some(())
 }
 
-// The words `from` to `to`, decimal numbers below 256, a byte for each; none if they are not there, or a word behind them is.
+/// The words `from` to `to`, decimal numbers below 256, a byte for each; none if they are not
+/// there, or a word behind them is.
 pub fn put_list(
     text: &[u8],
     from: usize,
@@ -283,7 +291,7 @@ pub fn put_list(
     words.next().is_none().then_some(())
 }
 
-// Exactly 16 bytes, in hexadecimal; none if they are not.
+/// Exactly 16 bytes, in hexadecimal; none if they are not.
 pub fn put_16(digits: &[u8], out: &mut [u8], at: usize) -> Option<()>
     ensures { (is_some result, out.new) ≡ sixteen_stored (hex_stored digits.now at 16 out.old) }
 {

@@ -6,24 +6,24 @@ use std::fmt::Display;
 use std::io::{Error, ErrorKind, Print, Stderr, Stdout};
 use std::{fmt, io};
 
-// Where a text goes.
+/// Where a text goes.
 #[derive(Clone, Copy)]
 pub enum Stream {
     Output,
     Error,
 }
 
-// What became of the writes so far.
+/// What became of the writes so far.
 #[derive(Clone, Copy, Debug, PartialEq, Eq)]
 pub enum Fate {
     Written,
-    // a write of the answer failed
+    /// a write of the answer failed
     Cut,
-    // nobody reads a stream any more: nothing more is written
+    /// nobody reads a stream any more: nothing more is written
     Unread,
 }
 
-// The two streams.
+/// The two streams.
 #[derive(Drop)]
 pub struct Out {
     output: Stdout,
@@ -62,7 +62,7 @@ impl Out {
         }
     }
 
-    // What a value prints.
+    /// What a value prints.
     pub fn put<D: Display + Drop>(&mut self, to: Stream, value: D)
         ensures { Becomes to self.old.fate self.new.fate }
     {
@@ -88,7 +88,7 @@ impl Out {
         self.put(Stream::Error, value);
     }
 
-    // Bytes that need not be text.
+    /// Bytes that need not be text.
     pub fn note_bytes(&mut self, bytes: &[u8])
         ensures { Becomes Stream.Error self.old.fate self.new.fate }
     {
@@ -100,7 +100,7 @@ impl Out {
     }
 }
 
-// Bytes in hexadecimal.
+/// Bytes in hexadecimal.
 #[derive(Clone, Copy)]
 pub struct HexBytes<'a>(pub &'a [u8]);
 
@@ -113,7 +113,7 @@ impl<'a> Display for HexBytes<'a> {
     }
 }
 
-// A count of bytes.
+/// A count of bytes.
 #[derive(Clone, Copy)]
 pub struct Count(pub usize);
 

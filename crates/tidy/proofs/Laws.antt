@@ -1,5 +1,6 @@
 -- Laws of tidying. Assumes nothing.
---     tidy_formed     tidying stores the parameters of the record that was read, in catalogue order, if the record is well formed
+--     tidy_formed     tidying stores the parameters of the record that was read, in catalogue
+--                     order, if the record is well formed
 --     tidied          as each is that was read
 use Prim.Native.Nat.{ℕ}
 use mathlib.Core.Path.{◌≡◌, refl, ap, ◌∙◌}

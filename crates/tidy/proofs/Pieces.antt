@@ -1,5 +1,5 @@
--- What tidying writes is the extension of the record that was read: at each place, the piece from where the value was found is the piece
--- of the record. Assumes nothing.
+-- What tidying writes is the extension of the record that was read: at each place, the piece from
+-- where the value was found is the piece of the record. Assumes nothing.
 use Prim.Native.Nat.{ℕ, suc, ◌≤◌}
 use mathlib.Core.Path.{◌≡◌, refl, ap, ap₂, sym, ◌∙◌}
 use mathlib.Core.List.{List, [], ◌∷◌, ◌++◌}
@@ -30,11 +30,11 @@ use Rattle.front.specs.declared.Fault.{Fault}
 use Rattle.front.specs.Answer.{refused_with}
 use Rattle.value.proofs.Checks.{number_at_lem, not_number_at}
 use Rattle.index.specs.Index.{Found, indexed, value_at}
-use Rattle.reader.specs.Kept.{record_from}
+use Rattle.reader.specs.Kept.{record_kept}
 use Rattle.index.proofs.Parts.{versions_no}
 use Rattle.reader.proofs.Indexed.{no_number, flag_no, address_no, kept_good, read_recorded, read_faulty}
 use Rattle.reader.proofs.Laws.{accepted_legal}
-use Rattle.wire.specs.Wire.{put, due_value, due_number, number_at}
+use Rattle.wire.specs.Wire.{put, due_value, due_number, due_number_at}
 use Rattle.wire.proofs.Put.{put_nil}
 use Rattle.wire.specs.Stored.{joined, each}
 use Rattle.wire.proofs.Stored.{joined_append}
@@ -123,12 +123,12 @@ module _ (id : ℕ) (s : List ℕ) (f : Found) (p : ℕ) where
       go true reserved n q = let w : v ≡ take (get_or f.2 p 0) (drop (get_or f.1 p 0) s) = cc in rw w
 
 module _ (side : Side) (s : List ℕ) (f : Found) (hb : Bytes s) (e : indexed side s ≡ accepted f) where
-  formed : well_formed (record_from s f) ≡ true
+  formed : well_formed (record_kept s f) ≡ true
   unfolding legal
-  formed = all_at _ (accepted_legal side s (record_from s f) hb (read_recorded side s f e)).0 0
+  formed = all_at _ (accepted_legal side s (record_kept s f) hb (read_recorded side s f e)).0 0
 
-  numbers_piece : each (number_at (record_from s f).numbers) 11 ≡ each (number_at f.1) 11
-  unfolding each number_at record_from elements
+  numbers_piece : each (due_number_at (record_kept s f).numbers) 11 ≡ each (due_number_at f.1) 11
+  unfolding each due_number_at record_kept elements
   numbers_piece = refl
 
   address_good : IfSome (Fits address) (pick (marked f.0 15) (some (span_at s f 15)) none)
@@ -143,8 +143,8 @@ module _ (side : Side) (s : List ℕ) (f : Found) (hb : Bytes s) (e : indexed si
   unfolding value_at span_at
   flag_good p k = rw k at (kept_good side s f hb e p (no_number p flag k flag_no))
 
-  others_piece : joined (from11 (record_from s f) ++ (from16 (record_from s f) ++ from21 (record_from s f))) ≡ joined (others s f)
-  unfolding others each piece_for piece_of kind_at kinds other_kinds record_from value_at no_reserved joined span_at
+  others_piece : joined (from11 (record_kept s f) ++ (from16 (record_kept s f) ++ from21 (record_kept s f))) ≡ joined (others s f)
+  unfolding others each piece_for piece_of kind_at kinds other_kinds record_kept value_at no_reserved joined span_at
   others_piece =
       rw (
         token_piece (marked f.0 12) (id_at 12) (span_at s f 12),
@@ -160,20 +160,20 @@ module _ (side : Side) (s : List ℕ) (f : Found) (hb : Bytes s) (e : indexed si
       )
       (unfold due_value in refl)
 
-  pub whole : joined (pieces s f) ≡ extension (record_from s f) catalogue_order
+  pub whole : joined (pieces s f) ≡ extension (record_kept s f) catalogue_order
   unfolding pieces
   whole =
-      joined_append (each (number_at f.1) 11) _
+      joined_append (each (due_number_at f.1) 11) _
       ∙ ap₂ (λ (a b : List ℕ). a ++ b) (ap joined (sym numbers_piece)) (sym others_piece)
-      ∙ sym (joined_append (each (number_at (record_from s f).numbers) 11) (from11 (record_from s f) ++ (from16 (record_from s f) ++ from21 (record_from s f))))
-      ∙ ap joined (all_due (record_from s f) formed)
-      ∙ in_catalogue_order (record_from s f)
+      ∙ sym (joined_append (each (due_number_at (record_kept s f).numbers) 11) (from11 (record_kept s f) ++ (from16 (record_kept s f) ++ from21 (record_kept s f))))
+      ∙ ap joined (all_due (record_kept s f) formed)
+      ∙ in_catalogue_order (record_kept s f)
 
   pub few : length (joined (pieces s f)) ≤ 385
-  few = rw whole (longest (record_from s f) catalogue_order formed in_catalogue)
+  few = rw whole (longest (record_kept s f) catalogue_order formed in_catalogue)
 
   pub tidied_pieces : (out : List ℕ) → store (joined (pieces s f)) out ≡ tidy side s out
-  tidied_pieces out = ap (λ (bs : List ℕ). store bs out) whole ∙ sym (tidied side s out (record_from s f) hb (read_recorded side s f e))
+  tidied_pieces out = ap (λ (bs : List ℕ). store bs out) whole ∙ sym (tidied side s out (record_kept s f) hb (read_recorded side s f e))
 
 pub not_read : (side : Side) (s out : List ℕ) (x : Fault) → refused x ≡ indexed side s
     → ◌≡◌ {A = Outcome ℕ × List ℕ} (refused (number_of (refused_with x)), out) (tidy side s out)

@@ -1,7 +1,9 @@
--- What storing answers, of parameters laid one after another in a buffer that has room for any. Assumes nothing.
+-- What storing answers, of parameters laid one after another in a buffer that has room for any.
+-- Assumes nothing.
 --     laid_front     how many bytes they are, and the buffer afterwards
 --     kept_front     the bytes stored, from there
---     put_front, stored_front, stored_none     what putting and storing them answers, with room and without
+--     put_front, stored_front, stored_none     what putting and storing them answers, with room and
+--       without
 use Prim.Native.Nat.{ℕ, ◌≤◌, ◌<◌}
 use mathlib.Core.Path.{◌≡◌, ap, ◌∙◌}
 use mathlib.Core.List.{List, []}

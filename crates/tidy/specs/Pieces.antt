@@ -1,9 +1,10 @@
--- What tidying writes, as it is found: from the numbers, and from where the values stand in the extension.
+-- What tidying writes, as it is found: from the numbers, and from where the values stand in the
+-- extension.
 use Rattle.std.specs.Prelude.{ℕ, ◌+◌, ◌-◌, List, ◌++◌, Bool, get_or, take, drop}
 use Rattle.marks.specs.Mark.{marked}
 use Rattle.catalogue.specs.Catalogue.{Kind, number, flag, cid, token, address, versions, reserved, places, id_at, kind_at}
 use Rattle.index.specs.Index.{Found}
-use Rattle.wire.specs.Wire.{due_value, due_number, number_at}
+use Rattle.wire.specs.Wire.{due_value, due_number, due_number_at}
 use Rattle.wire.specs.Stored.{each}
 
 -- where a value that is no number stands
@@ -28,4 +29,4 @@ unfoldable pub others : List ℕ → Found → List (List ℕ)
 others s f = each (λ i. piece_for (id_at (12 + i)) s f (12 + i)) (places - 12)
 
 unfoldable pub pieces : List ℕ → Found → List (List ℕ)
-pieces s f = each (number_at f.1) 11 ++ others s f
+pieces s f = each (due_number_at f.1) 11 ++ others s f

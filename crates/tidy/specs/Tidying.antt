@@ -1,5 +1,5 @@
--- Tidying an extension, as a definition: read for a side, then write in catalogue order without a reserved parameter. Refused as
--- reading is, then with 5.
+-- Tidying an extension, as a definition: read for a side, then write in catalogue order without a
+-- reserved parameter. Refused as reading is, then with 5.
 use Rattle.std.specs.Prelude.{ℕ, List}
 use Rattle.refusal.specs.Outcome.{Outcome, accepted, refused}
 use Rattle.record.specs.declared.TransportParameters.{TransportParameters}

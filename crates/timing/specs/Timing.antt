@@ -1,4 +1,5 @@
--- What the functions of the benchmark answer and leave in the buffer, by the definitions of the operations.
+-- What the functions of the benchmark answer and leave in the buffer, by the definitions of the
+-- operations.
 use Rattle.std.specs.Prelude.{ℕ, zero, suc, ◌+◌, ◌-◌, ◌^◌, List, length, take, drop, ltb}
 use Rattle.refusal.specs.Outcome.{Outcome, accepted, refused, pick}
 use Rattle.record.specs.declared.TransportParameters.{TransportParameters}
@@ -29,7 +30,8 @@ unfoldable pub last_of : ℕ → ℕ → ℕ
 last_of zero x = 0
 last_of (suc n) x = x
 
--- the next n bytes from a position on, from the front again where so many are not left: the position behind them, and what reading them gives
+-- the next n bytes from a position on, from the front again where so many are not left: the
+-- position behind them, and what reading them gives
 unfoldable pub read_next : ℕ → List ℕ → ℕ × ℕ → ℕ × ℕ
 read_next n s w =
     (pick (ltb (length s - w.0) n) 0 w.0 + n, code (read Client (take n (drop (pick (ltb (length s - w.0) n) 0 w.0) s))))

@@ -1,5 +1,6 @@
-// The operations as another crate of Rattle calls them, exported for the benchmark (bench/): a record stays a record, where the C interface
-// makes its image. An answer is a count, or `REFUSED` and the number of the refusal.
+// The operations as another crate of Rattle calls them, exported for the benchmark (bench/): a
+// record stays a record, where the C interface makes its image. An answer is a count, or `REFUSED`
+// and the number of the refusal.
 #![tactic(auto)]
 
 ghost use Rattle.std.specs.Prelude.{◌≡◌, get_or};
@@ -25,8 +26,9 @@ fn code_of(answer: Result<usize, Refusal>) -> usize
     answer.unwrap_or_else(|refusal| REFUSED + usize::from(refusal.number()))
 }
 
-// Reading has more than one caller here, and writing is marked, so that the compiler keeps each a function of its own. Inlined, reading would
-// leave out what its caller does not look at, and writing could test the record once for all calls of a loop.
+// Reading has more than one caller here, and writing is marked, so that the compiler keeps each a
+// function of its own. Inlined, reading would leave out what its caller does not look at, and
+// writing could test the record once for all calls of a loop.
 
 // 0, or the number of the refusal.
 fn read_once(src: &[u8]) -> u8
@@ -37,8 +39,8 @@ fn read_once(src: &[u8]) -> u8
         .map_or(0, |refusal| refusal.number())
 }
 
-// Reads so many times, and gives what the last gave. A loop of its own, and not the next one's with one extension: what that does to find the next is
-// no part of what is measured.
+/// Reads so many times, and gives what the last gave. A loop of its own, and not the next one's
+/// with one extension: what that does to find the next is no part of what is measured.
 #[unsafe(no_mangle)]
 #[tactic(auto, unfolding(crate::specs::Timing::last_of))]
 pub extern "C" fn timing_read(src: &[u8], times: usize) -> u8
@@ -51,8 +53,9 @@ pub extern "C" fn timing_read(src: &[u8], times: usize) -> u8
     last
 }
 
-// The same for extensions of one size that stand one after another, from the first again after the last. 0 where there is not one: C takes a number. By
-// position: they may be of no bytes, and `chunks_exact` has no such pieces.
+/// The same for extensions of one size that stand one after another, from the first again after the
+/// last. 0 where there is not one: C takes a number. By position: they may be of no bytes, and
+/// `chunks_exact` has no such pieces.
 #[unsafe(no_mangle)]
 #[tactic(auto, unfolding(crate::specs::Timing::read_next, crate::specs::Timing::reads_of))]
 pub extern "C" fn timing_reads(src: &[u8], size: usize, times: usize) -> u8
@@ -80,7 +83,7 @@ fn record_read(src: &[u8]) -> TransportParameters
     reader::read(Side::Client, src).unwrap_or_default()
 }
 
-// The number at a place of it, 0 from place 11 on.
+/// The number at a place of it, 0 from place 11 on.
 #[unsafe(no_mangle)]
 pub extern "C" fn timing_number(src: &[u8], place: usize) -> u64
     ensures { result ≡ get_or (value_or default_record (read Side.Client src.now)).numbers place 0 }
@@ -90,15 +93,15 @@ pub extern "C" fn timing_number(src: &[u8], place: usize) -> u64
 }
 
 #[inline(never)]
-fn write_once(r: TransportParameters, out: &mut [u8]) -> usize
-    ensures { (result, out.new) ≡ counted (write r out.old) }
+fn write_once(r: &TransportParameters, out: &mut [u8]) -> usize
+    ensures { (result, out.new) ≡ counted (write r.now out.old) }
 {
     code_of(writer::write(r, out))
 }
 
 #[tactic(auto, unfolding(crate::specs::Timing::again))]
-fn write_times(r: TransportParameters, times: usize, out: &mut [u8]) -> usize
-    ensures { (result, out.new) ≡ repeat times (again r) (0, out.old) }
+fn write_times(r: &TransportParameters, times: usize, out: &mut [u8]) -> usize
+    ensures { (result, out.new) ≡ repeat times (again r.now) (0, out.old) }
 {
     let mut answer = 0;
     for _ in 0..times {
@@ -107,18 +110,18 @@ fn write_times(r: TransportParameters, times: usize, out: &mut [u8]) -> usize
     answer
 }
 
-// Writes the record of an image so many times, and gives the answer of the last.
+/// Writes the record of an image so many times, and gives the answer of the last.
 #[unsafe(no_mangle)]
 pub extern "C" fn timing_write(record: &[u8], times: usize, out: &mut [u8]) -> usize
     ensures { (result, out.new) ≡ written_from (record_from «record».now) times out.old }
 {
     match imaged::record_from(record) {
-        Ok(r) => write_times(r, times, out),
+        Ok(r) => write_times(&r, times, out),
         Err(refusal) => code_of(Err(refusal)),
     }
 }
 
-// The same once. A function of its own, since its name is exported.
+/// The same once. A function of its own, since its name is exported.
 #[unsafe(no_mangle)]
 pub extern "C" fn timing_written(record: &[u8], out: &mut [u8]) -> usize
     ensures { (result, out.new) ≡ written_from (record_from «record».now) 1 out.old }

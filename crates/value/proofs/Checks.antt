@@ -1,4 +1,5 @@
--- What the tests of the code mean for the definitions: a value of each kind, the kind of a place, a second copy. Assumes nothing.
+-- What the tests of the code mean for the definitions: a value of each kind, the kind of a place, a
+-- second copy. Assumes nothing.
 use Prim.Native.Nat.{ℕ, ◌+◌, ◌*◌, ◌^◌, ◌≤◌, ◌<◌}
 use mathlib.Core.Path.{◌≡◌, refl, ap, sym, ◌∙◌}
 use mathlib.Core.List.{List, [], ◌∷◌}

@@ -1,5 +1,5 @@
--- A value received for a place: a second copy, then one that is illegal, then one that does not fit; and what is kept of one that is none of
--- these.
+-- A value received for a place: a second copy, then one that is illegal, then one that does not
+-- fit; and what is kept of one that is none of these.
 use Rattle.std.specs.Prelude.{ℕ, List, Bool, true, false}
 use Rattle.refusal.specs.Outcome.{Result, accepted, refused, Outcome, pick}
 use Rattle.varint.specs.Number.{read_number}
@@ -43,6 +43,7 @@ check_kind k a v = pick (illegal k v) (refused Illegal) (pick (fits k v) (accept
 abbrev pub check_value : ℕ → ℕ → List ℕ → Result Fault Held
 check_value p a v = check_kind (kind_at p) a v
 
--- a value for a place, which was met before or not: a second copy (RFC 9000 section 7.4), before its value is looked at
+-- a value for a place, which was met before or not: a second copy (RFC 9000 section 7.4), before
+-- its value is looked at
 unfoldable pub receive_value : Bool → ℕ → ℕ → List ℕ → Result Fault Held
 receive_value met p a v = pick met (refused SecondCopy) (check_value p a v)

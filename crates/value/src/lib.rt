@@ -1,5 +1,5 @@
-// A value received for a place of the catalogue: whether it is a second copy, whether it fits its kind, and what is kept of it: the number that it
-// holds or, for another kind, where it starts.
+// A value received for a place of the catalogue: whether it is a second copy, whether it fits its
+// kind, and what is kept of it: the number that it holds or, for another kind, where it starts.
 #![tactic(auto)]
 
 ghost use Rattle.std.specs.Prelude.{◌≡◌, true, ◌≤◌, ◌<◌, length, take};
@@ -19,7 +19,8 @@ use record::ResetToken;
 use varint::VarInt;
 use words::all_zero;
 
-// What is kept of a value: the number that it holds, or where it starts; and how many bytes the shortest form of the number would have saved.
+/// What is kept of a value: the number that it holds, or where it starts; and how many bytes the
+/// shortest form of the number would have saved.
 #[derive(Clone, Copy, Debug, PartialEq, Eq)]
 pub struct Held {
     pub kept: u64,
@@ -87,8 +88,9 @@ fn fits_if(test: bool, held: Held) -> Result<Held, Fault>
     test.then_some(held).ok_or(Fault::Misfit)
 }
 
-// A value for a place: there is none for the reserved parameter's place, nor beyond the last. The kinds are told by masks, as in `check_wide`: an enum of
-// kinds would be a second table of the same.
+// A value for a place: there is none for the reserved parameter's place, nor beyond the last. The
+// kinds are told by masks, as in `check_wide`: an enum of kinds would be a second table of the
+// same.
 #[inline(always)]
 fn check_narrow(place: usize, start: usize, v: &[u8]) -> Result<Held, Fault>
     ensures { fault_outcome result ≡ check_value place start v.now }
@@ -114,7 +116,8 @@ fn check_narrow(place: usize, start: usize, v: &[u8]) -> Result<Held, Fault>
     Err(Fault::Misfit)
 }
 
-// A value received: for which place, where it starts in the extension, and its bytes, the first `len` of `rest` or all that are there.
+/// A value received: for which place, where it starts in the extension, and its bytes, the first
+/// `len` of `rest` or all that are there.
 #[derive(Clone, Copy)]
 pub struct Received<'a> {
     pub place: usize,
@@ -124,11 +127,15 @@ pub struct Received<'a> {
 }
 
 impl<'a> Received<'a> {
-    // For a simple place: a number is as long as it says, a token 16, a connection ID up to 20, a flag none. Parameters come in any order, so there
-    // is no branch on the kind: what depends on it is taken from arrays of two, by a test as 0 or 1.
+    // For a simple place: a number is as long as it says, a token 16, a connection ID up to 20, a
+    // flag none. Parameters come in any order, so there is no branch on the kind: what depends on
+    // it is taken from arrays of two, by a test as 0 or 1.
     fn check_wide(self) -> Result<Held, Fault>
-        requires { (8 ≤ length self.rest.now) × (self.len ≤ length self.rest.now) × (is_simple (kind_at self.place) ≡ true) }
-        ensures { fault_outcome result ≡ check_value self.entry.place self.entry.start (take self.entry.len self.entry.rest.now) }
+        requires { (8 ≤ length self.rest.now) × (self.len ≤ length self.rest.now)
+            × (is_simple (kind_at self.place) ≡ true) }
+        ensures { fault_outcome result
+            ≡ check_value self.entry.place self.entry.start
+            (take self.entry.len self.entry.rest.now) }
     {
         let Received {
             place,
@@ -154,7 +161,9 @@ impl<'a> Received<'a> {
 
     #[tactic(auto, using(crate::proofs::Checks::simple_told, crate::proofs::Checks::all_there))]
     fn check<const COUNTED: bool>(self) -> Result<Held, Fault>
-        ensures { fault_outcome result ≡ check_value self.entry.place self.entry.start (take self.entry.len self.entry.rest.now) }
+        ensures { fault_outcome result
+            ≡ check_value self.entry.place self.entry.start
+            (take self.entry.len self.entry.rest.now) }
     {
         let Received {
             place,
@@ -171,10 +180,13 @@ impl<'a> Received<'a> {
         check_narrow(place, start, &rest[..len])
     }
 
-    // What is kept of it; the place was met before or not. `COUNTED` changes nothing that is given: reading and the report have a copy each.
+    /// What is kept of it; the place was met before or not. `COUNTED` changes nothing that is
+    /// given: reading and the report have a copy each.
     #[tactic(auto, unfolding(crate::specs::Value::receive_value))]
     pub fn receive<const COUNTED: bool>(self, met: bool) -> Result<Held, Fault>
-        ensures { fault_outcome result ≡ receive_value met self.entry.place self.entry.start (take self.entry.len self.entry.rest.now) }
+        ensures { fault_outcome result
+            ≡ receive_value met self.entry.place self.entry.start
+            (take self.entry.len self.entry.rest.now) }
     {
         if met {
             return Err(Fault::SecondCopy);

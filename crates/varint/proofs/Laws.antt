@@ -2,7 +2,8 @@
 --     read_number_bytes     what was written is read back, whatever follows it
 --     number_append         more bytes change nothing
 --     read_take             nor do fewer, as long as the number is there
---     read_bounds           what is read is below 2 ^ 62, lies within the bytes, and is no shorter than the shortest form
+--     read_bounds           what is read is below 2 ^ 62, lies within the bytes, and is no shorter
+--                           than the shortest form
 --     read_saved, read_count   what its shortest form would have saved
 --     write_refused, write_sized     what a number's size says of writing it
 use Prim.Native.Nat.{ℕ, zero, suc, ◌+◌, ◌-◌, ◌*◌, ◌/◌, ◌%◌, ◌^◌, ◌≤◌, ◌<◌}
@@ -46,7 +47,8 @@ read_form k v rest hk hv =
 pub read_number_bytes : (v : ℕ) (rest : List ℕ) → v < 2 ^ 62 → read_number (number_bytes v ++ rest) ≡ accepted (with_saved v (length (number_bytes v)))
 read_number_bytes v rest h = read_form (tag_of v) v rest (tag_le v) (tag_room v h) ∙ ap (λ n. accepted (with_saved v n)) (sym (length_form (tag_of v) v (tag_le v)))
 
--- what is read has a byte at least, lies within the bytes, whatever they are, and saves no more than it has
+-- what is read has a byte at least, lies within the bytes, whatever they are, and saves no more
+-- than it has
 pub read_within : (bs : List ℕ) (a : Decoded) → read_number bs ≡ accepted a → (1 ≤ a.count) × (a.count ≤ length bs) × (a.saved ≤ a.count)
 unfolding read_number
 read_within [] a e = cc

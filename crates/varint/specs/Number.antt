@@ -20,12 +20,14 @@ tag_of v = pick (ltb v (2 ^ 6)) 0 (pick (ltb v (2 ^ 14)) 1 (pick (ltb v (2 ^ 30)
 abbrev pub number_bytes : ℕ → List ℕ
 number_bytes v = form (tag_of v) v
 
--- what reading gives: the number, its byte count, and how many bytes its shortest form would have saved
+-- what reading gives: the number, its byte count, and how many bytes its shortest form would have
+-- saved
 abbrev pub with_saved : ℕ → ℕ → Decoded
 with_saved v n = record { value = v; count = n; saved = n - length (number_bytes v) }
 
--- the two most significant bits of the first byte are the base-2 logarithm of the length in bytes; the number is on the remaining
--- bits, in network byte order. 3 if no byte is there, or fewer than the first calls for
+-- the two most significant bits of the first byte are the base-2 logarithm of the length in bytes;
+-- the number is on the remaining bits, in network byte order. 3 if no byte is there, or fewer than
+-- the first calls for
 unfoldable pub read_number : List ℕ → Outcome Decoded
 read_number [] = refused 3
 read_number (b ∷ bs) =

@@ -14,7 +14,8 @@ use words::bytes_at;
 #[derive(Clone, Copy, Debug, PartialEq, Eq)]
 pub struct VarInt(pub u64);
 
-// What reading gives: the number, how many bytes it was read from, and how many of these its shortest form would have saved.
+/// What reading gives: the number, how many bytes it was read from, and how many of these its
+/// shortest form would have saved.
 #[derive(Clone, Copy, Debug, PartialEq, Eq)]
 pub struct Decoded {
     pub value: u64,
@@ -53,13 +54,13 @@ impl From<VarInt> for u64 {
 }
 
 impl VarInt {
-    // The largest number that the wire form carries.
+    /// The largest number that the wire form carries.
     pub const MAX: VarInt = VarInt((1 << 62) - 1);
 
-    // The longest form, in bytes.
+    /// The longest form, in bytes.
     pub const MAX_SIZE: usize = 8;
 
-    // How many bytes the shortest form has.
+    /// How many bytes the shortest form has.
     #[tactic(auto, using(std::proofs::lemmas::Bool::Decides::nat_tests), unfolding(crate::specs::Number::size_number))]
     pub fn size(self) -> Result<usize, Refusal>
         ensures { outcome_of result ≡ size_number self.0 }
@@ -71,7 +72,7 @@ impl VarInt {
         Ok(size_of(x))
     }
 
-    // The number at the front of `src`. The one-byte form stands apart: most numbers are short.
+    /// The number at the front of `src`. The one-byte form stands apart: most numbers are short.
     #[tactic(auto, using(crate::proofs::Bytes::read_none))]
     pub fn decode(src: &[u8]) -> Result<Decoded, Refusal>
         ensures { outcome_of result ≡ read_number src.now }
@@ -91,8 +92,8 @@ impl VarInt {
         decode_longer(tag, src)
     }
 
-    // The same where eight bytes are there, with no branch on the number's width. Zeros if there are fewer, and no Option: its caller has counted
-    // the bytes, and would branch once more.
+    /// The same where eight bytes are there, with no branch on the number's width. Zeros if there
+    /// are fewer, and no Option: its caller has counted the bytes, and would branch once more.
     #[tactic(auto, using(crate::proofs::Word::read_front))]
     pub fn decode_wide(src: &[u8]) -> Decoded
         ensures { (accepted result ≡ read_wide src.now) × (result.count ≤ 8) }
@@ -107,7 +108,7 @@ impl VarInt {
         wide_of(u64::from_be_bytes(bytes_at(src, 0)))
     }
 
-    // Writes the shortest form to the front of `out`.
+    /// Writes the shortest form to the front of `out`.
     #[tactic(auto, using(refusal::proofs::Laws::raised, crate::proofs::Laws::write_refused, crate::proofs::Laws::write_sized), unfolding(crate::specs::Number::write_number, refusal::specs::Outcome::store))]
     pub fn encode(self, out: &mut [u8]) -> Result<usize, Refusal>
         ensures { (outcome_of result, out.new) ≡ write_number self.0 out.old }
@@ -120,7 +121,8 @@ impl VarInt {
     }
 }
 
-// How many bytes the shortest form has; 8 for a value that has none, since this never fails: `VarInt::size` refuses it.
+/// How many bytes the shortest form has; 8 for a value that has none, since this never fails:
+/// `VarInt::size` refuses it.
 #[tactic(auto, using(crate::proofs::Bytes::size_1, crate::proofs::Bytes::size_2, crate::proofs::Bytes::size_4, crate::proofs::Bytes::size_8))]
 pub fn size_of(x: u64) -> usize
     ensures { result ≡ length (number_bytes x) }
@@ -158,7 +160,8 @@ fn wide_of(word: u64) -> Decoded
     with_saved((word & VarInt::MAX.0) >> (64 - bits), 1usize << tag)
 }
 
-// A number of two, four or eight bytes, as `tag` of the first byte says: a `match`, since const arguments are constants.
+// A number of two, four or eight bytes, as `tag` of the first byte says: a `match`, since const
+// arguments are constants.
 fn decode_longer(tag: u8, src: &[u8]) -> Result<Decoded, Refusal>
     requires { (0 < length src.now) × (tag ≡ get_or src.now 0 0 / 64) × (0 < tag) }
     ensures { outcome_of result ≡ read_number src.now }

@@ -1,4 +1,5 @@
-// Runs the sample numbers of RFC 9000 appendix A.1, the boundaries of the number forms, and connection IDs, and says what came out.
+// Runs the sample numbers of RFC 9000 appendix A.1, the boundaries of the number forms, and
+// connection IDs, and says what came out.
 #![tactic(auto)]
 
 use connection_id::ConnectionId;
@@ -11,7 +12,8 @@ fn show(rt: &HostRuntime, name: &str, ok: bool) -> io::Result<()> {
     println!(rt; "{name}: {verdict}")
 }
 
-// A number that reads as `value` and takes `count` bytes, `saved` of which its shortest form would have saved.
+// A number that reads as `value` and takes `count` bytes, `saved` of which its shortest form would
+// have saved.
 fn reads(src: &[u8], value: u64, count: usize, saved: usize) -> bool {
     VarInt::decode(src)
         == Ok(Decoded {
@@ -25,7 +27,8 @@ fn is_cut(src: &[u8]) -> bool {
     VarInt::decode(src) == Err(Refusal::UnexpectedEnd)
 }
 
-// A number that is written into exactly `size` bytes and read back; a buffer one byte short is refused and left alone.
+// A number that is written into exactly `size` bytes and read back; a buffer one byte short is
+// refused and left alone.
 fn round_trip(value: u64, size: usize) -> bool {
     let Some(short) = size.checked_sub(1) else {
         return false;

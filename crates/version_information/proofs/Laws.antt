@@ -7,7 +7,8 @@
 --     versions_same      the bytes of what is read are those of the value
 --     read_formed        what is read is well formed
 --     versions_long      how many bytes a well-formed one has; and that they fit
---     all_long, versions_front    the bytes of all sixteen places: how many they are, and that they begin with those
+--     all_long, versions_front    the bytes of all sixteen places: how many they are, and that they
+--                                 begin with those
 --     absent_zero        one that is absent is all zero
 --     decoded            what decoding answers for a value
 --     by_type            what is left of a well-formed one, given what its types say

@@ -1,4 +1,5 @@
--- Version information (RFC 9368 section 3): a chosen version and at most 16 available ones; their bytes, four to a version, high byte first.
+-- Version information (RFC 9368 section 3): a chosen version and at most 16 available ones; their
+-- bytes, four to a version, high byte first.
 use Rattle.std.specs.Prelude.{ℕ, ◌-◌, ◌/◌, ◌^◌, Bool, true, false, ◌&&◌, ◌||◌, List, [], ◌∷◌, ◌++◌, length, take, drop, replicate, ltb, leb, eqb}
 use Rattle.refusal.specs.Outcome.{Outcome, accepted, refused, pick, all}
 use Rattle.words.specs.Words.{every, zeros, value_from, numbers_bytes, numbers_of}
@@ -13,7 +14,8 @@ no_versions = record { present = false; available_len = 0; chosen = 0; available
 abbrev pub available_in : VersionInformation → List ℕ
 available_in i = take i.available_len i.available
 
--- well formed: what the types say; at most 16 versions are available, and zeros stand behind them; all zero where it is absent
+-- well formed: what the types say; at most 16 versions are available, and zeros stand behind them;
+-- all zero where it is absent
 unfoldable pub formed_versions : VersionInformation → Bool
 formed_versions i =
     all (

@@ -1,4 +1,5 @@
-// Version information (RFC 9368 section 3): the version chosen for a connection, and those that its sender has available.
+// Version information (RFC 9368 section 3): the version chosen for a connection, and those that its
+// sender has available.
 #![tactic(auto)]
 
 ghost use Rattle.std.specs.Prelude.{◌≡◌, ◌++◌, ◌+◌, ◌-◌, ◌*◌, ◌≤◌, length, drop, replicate};
@@ -11,26 +12,27 @@ ghost use Rattle.version_information.specs.VersionInformation.{formed_versions, 
 use refusal::Refusal;
 use words::bytes_at;
 
-// Fixed memory: an array with a length, as in a connection ID. What is absent is all zero. The two bytes stand together: apart, each would have three bytes of
-// padding, which the compiler copies too.
+/// Fixed memory: an array with a length, as in a connection ID. What is absent is all zero. The two
+/// bytes stand together: apart, each would have three bytes of padding, which the compiler copies
+/// too.
 #[derive(Clone, Copy, Debug, Default, PartialEq, Eq)]
 pub struct VersionInformation {
     pub present: bool,
-    // how many versions are available
+    /// how many versions are available
     pub available_len: u8,
     pub chosen: u32,
-    // the available versions, then zeros
+    /// the available versions, then zeros
     pub available: [u32; 16],
 }
 
 impl VersionInformation {
-    // The most versions that can be available.
+    /// The most versions that can be available.
     pub const MAX_AVAILABLE: usize = 16;
 
-    // The longest value, in bytes.
+    /// The longest value, in bytes.
     pub const MAX_SIZE: usize = 68;
 
-    // A chosen version, and available ones, of which there are at most 16.
+    /// A chosen version, and available ones, of which there are at most 16.
     #[tactic(auto, using(std::proofs::lemmas::Bool::Decides::nat_tests), unfolding(crate::specs::VersionInformation::make_versions))]
     pub fn new(chosen: u32, available: &[u32]) -> Result<VersionInformation, Refusal>
         ensures { outcome_of result ≡ make_versions chosen available.now }
@@ -48,7 +50,7 @@ impl VersionInformation {
         })
     }
 
-    // At most 16 versions are available, zeros stand behind them, and what is absent is all zero.
+    /// At most 16 versions are available, zeros stand behind them, and what is absent is all zero.
     #[tactic(auto, using(std::proofs::lemmas::Bool::Decides::nat_tests), unfolding(refusal::specs::Outcome::all, crate::specs::VersionInformation::formed_versions))]
     pub fn is_well_formed(&self) -> bool
         ensures { result ≡ formed_versions self.now }
@@ -60,7 +62,7 @@ impl VersionInformation {
         all_zero(&self.available[n..]) & (self.present | ((self.chosen == 0) & (n == 0)))
     }
 
-    // Whether a version is available.
+    /// Whether a version is available.
     pub fn lists(&self, version: u32) -> bool
         ensures { result ≡ member version (available_in self.now) }
     {
@@ -68,14 +70,14 @@ impl VersionInformation {
         is_among(version, &self.available[..n])
     }
 
-    // How many bytes its value has.
+    /// How many bytes its value has.
     pub fn size(&self) -> usize
         ensures { result ≡ 4 + 4 * self.now.available_len }
     {
         4 + 4 * usize::from(self.available_len)
     }
 
-    // The chosen version and all sixteen places of available ones, four bytes each.
+    /// The chosen version and all sixteen places of available ones, four bytes each.
     pub fn to_bytes(&self) -> [u8; 68]
         ensures { result ≡ all_bytes self.now }
     {
@@ -87,7 +89,7 @@ impl VersionInformation {
         out
     }
 
-    // The same back, with what does not stand in these bytes.
+    /// The same back, with what does not stand in these bytes.
     pub fn from_bytes(present: bool, available_len: u8, bytes: &[u8; 68]) -> VersionInformation
         ensures { result ≡ versions_with present available_len bytes.now }
     {
@@ -99,7 +101,8 @@ impl VersionInformation {
         }
     }
 
-    // The version information of a value: the chosen version, then the available ones, four bytes each.
+    /// The version information of a value: the chosen version, then the available ones, four bytes
+    /// each.
     #[tactic(auto, using(crate::proofs::Laws::value_within, crate::proofs::Laws::read_padded), unfolding(crate::specs::VersionInformation::read_versions))]
     pub fn decode(v: &[u8]) -> Result<VersionInformation, Refusal>
         ensures { outcome_of result ≡ read_versions v.now }
@@ -112,7 +115,7 @@ impl VersionInformation {
     }
 }
 
-// Whether these are the bytes of a chosen version and at most 16 available ones.
+/// Whether these are the bytes of a chosen version and at most 16 available ones.
 #[tactic(auto, using(std::proofs::lemmas::Bool::Decides::nat_tests), unfolding(refusal::specs::Outcome::all, catalogue::specs::Catalogue::fits))]
 pub fn is_value(v: &[u8]) -> bool
     ensures { result ≡ fits versions v.now }

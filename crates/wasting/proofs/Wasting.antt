@@ -1,4 +1,5 @@
--- What one parameter adds to the counts, by the parameter that the code finds at the front of its bytes. Assumes nothing.
+-- What one parameter adds to the counts, by the parameter that the code finds at the front of its
+-- bytes. Assumes nothing.
 --     none_adds                        bytes that are no parameter
 --     unknown_adds, default_adds       one that is skipped, or that restates a default
 --     number_adds, other_adds          one that is sent again

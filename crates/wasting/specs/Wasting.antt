@@ -10,7 +10,8 @@ use Rattle.wasting.specs.declared.Reason.TheVariants.{Unknown, Default, Form}
 use Rattle.wasting.specs.declared.Wasted.{Wasted}
 use Rattle.wasting.specs.declared.Waster.{Waster}
 
--- what a parameter adds to the three counts that tidying drops, together; and in which it is counted
+-- what a parameter adds to the three counts that tidying drops, together; and in which it is
+-- counted
 abbrev pub bytes_wasted : Counts → ℕ
 bytes_wasted c = c.skipped + c.restated + c.saved
 

@@ -1,4 +1,5 @@
-// What the parameters of an extension waste: how many bytes each, and why; and those that waste most.
+// What the parameters of an extension waste: how many bytes each, and why; and those that waste
+// most.
 #![tactic(auto)]
 
 ghost use Rattle.std.specs.Prelude.{◌≡◌, ◌≤◌, ◌+◌, length, IfOk};
@@ -19,24 +20,24 @@ use std::fmt::Display;
 use tally::{Sums, restates};
 use varint::{Decoded, VarInt};
 
-// Why a parameter wastes bytes.
+/// Why a parameter wastes bytes.
 #[derive(Clone, Copy, Debug, PartialEq, Eq)]
 pub enum Reason {
     Unknown,
-    // it restates a default
+    /// it restates a default
     Default,
-    // longer forms of numbers than they need
+    /// longer forms of numbers than they need
     Form,
 }
 
-// How many bytes a parameter wastes, and why. Of one that wastes none the reason says nothing.
+/// How many bytes a parameter wastes, and why. Of one that wastes none the reason says nothing.
 #[derive(Clone, Copy)]
 pub struct Wasted {
     pub bytes: usize,
     pub reason: Reason,
 }
 
-// A parameter that wastes bytes: its identifier, its length, and what it wastes.
+/// A parameter that wastes bytes: its identifier, its length, and what it wastes.
 #[derive(Clone, Copy)]
 pub struct Waster {
     pub id: u64,
@@ -71,7 +72,7 @@ fn number_in(v: &[u8]) -> Decoded
     }
 }
 
-// What a parameter, by its own bytes, adds to what tidying drops.
+/// What a parameter, by its own bytes, adds to what tidying drops.
 #[tactic(auto, using(front::proofs::Position::within, crate::proofs::Wasting::none_adds, crate::proofs::Wasting::unknown_adds, crate::proofs::Wasting::default_adds, crate::proofs::Wasting::number_adds, crate::proofs::Wasting::other_adds))]
 pub fn sums_of(w: &[u8]) -> Sums
     ensures sums { result ≡ dropped (count_of w.now) }
@@ -107,7 +108,7 @@ pub fn sums_of(w: &[u8]) -> Sums
     Sums { saved, ..nothing }
 }
 
-// What a parameter wastes.
+/// What a parameter wastes.
 pub fn waste(w: &[u8]) -> Wasted
     ensures { result ≡ waste_of (count_of w.now) }
 {
@@ -148,11 +149,13 @@ fn collect(alloc: Global, src: &[u8]) -> Result<Vec<Waster>, AllocError>
     Ok(found)
 }
 
-// The same, those that waste most first; of those that waste as much, that which stands first.
+/// The same, those that waste most first; of those that waste as much, that which stands first.
 pub fn wasters(alloc: Global, src: &[u8]) -> Result<Vec<Waster>, AllocError>
-    ensures all { IfOk result (λ found. IsPermutation (wasters_of (parameters src.now)) found.items) }
+    ensures all { IfOk result
+        (λ found. IsPermutation (wasters_of (parameters src.now)) found.items) }
     ensures most_first { IfOk result (λ found. IsSortedBy wastes_more found.items) }
-    ensures ties { IfOk result (λ found. IsStableBy wastes_more (wasters_of (parameters src.now)) found.items) }
+    ensures ties { IfOk result
+        (λ found. IsStableBy wastes_more (wasters_of (parameters src.now)) found.items) }
 {
     let mut found = collect(alloc, src)?;
     found.sort_by(|a, b| b.wasted.bytes.cmp(&a.wasted.bytes))?;

@@ -6,9 +6,12 @@
 --     encoded, declined         what writing a number gives
 --     not_due, is_due, number_not_due, number_is_due    a parameter that is due or not
 --     value_off, number_off     of one that is not, nothing is stored
---     short_none, short_whole, short_put, number_none, number_few, number_declined, number_whole    identifiers and lengths of one byte
---     too_high, kept_low, kept_part, kept_within    a number that was declined, and one that was stored
---     head_first, head_room, head_second, head_count, head_whole, long_nothing, long_none, long_whole    and of any
+--     short_none, short_whole, short_put, number_none, number_few, number_declined, number_whole
+--       identifiers and lengths of one byte
+--     too_high, kept_low, kept_part, kept_within    a number that was declined, and one that was
+--       stored
+--     head_first, head_room, head_second, head_count, head_whole, long_nothing, long_none,
+--       long_whole    and of any
 use Prim.Native.Nat.{ℕ, ◌+◌, ◌≤◌, ◌<◌}
 use mathlib.Core.List.{List, [], ◌∷◌, ◌++◌, append_assoc}
 use mathlib.Core.Option.{none, some}

@@ -4,7 +4,8 @@ use Rattle.refusal.specs.Outcome.{pick, front}
 use Rattle.varint.specs.Number.{bound, number_bytes}
 use Rattle.catalogue.specs.Catalogue.{defaults, id_at, parameter}
 
--- how many bytes are stored at the front of a buffer, and the buffer afterwards: none where there is no room for all
+-- how many bytes are stored at the front of a buffer, and the buffer afterwards: none where there
+-- is no room for all
 unfoldable pub put : List ℕ → List ℕ → ℕ × List ℕ
 put bs out = pick (leb (length bs) (length out)) (length bs, front bs out) (0, out)
 
@@ -27,5 +28,5 @@ unfoldable pub due_number : Bool → ℕ → ℕ → List ℕ
 due_number due id x = due_value (due && ltb x bound) id (number_bytes x)
 
 -- what is due at places 0 to 10: a number that is not the default
-unfoldable pub number_at : List ℕ → ℕ → List ℕ
-number_at ns p = due_number (not (eqb (get_or ns p 0) (get_or defaults p 0))) (id_at p) (get_or ns p 0)
+unfoldable pub due_number_at : List ℕ → ℕ → List ℕ
+due_number_at ns p = due_number (not (eqb (get_or ns p 0) (get_or defaults p 0))) (id_at p) (get_or ns p 0)

@@ -1,7 +1,10 @@
-// Parameters on the wire: one writer for each kind of value, for writing and for tidying. Each stores all of its parameter at the front of `out`
-// and gives its byte count, or stores nothing and gives 0: if it is not due, if there is no room, or if the wire form has no such number. It is no
-// `Option`: 0 is how many bytes were stored, and callers add the counts up, due or not, without a branch. `due` stands beside the value: an `Option` of
-// the value would be made by a caller that tests a default, only to be taken apart here; and a struct of identifier and value would be one for each call.
+// Parameters on the wire: one writer for each kind of value, for writing and for tidying. Each
+// stores all of its parameter at the front of `out` and gives its byte count, or stores nothing and
+// gives 0: if it is not due, if there is no room, or if the wire form has no such number. It is no
+// `Option`: 0 is how many bytes were stored, and callers add the counts up, due or not, without a
+// branch. `due` stands beside the value: an `Option` of the value would be made by a caller that
+// tests a default, only to be taken apart here; and a struct of identifier and value would be one
+// for each call.
 #![tactic(auto)]
 
 ghost use Rattle.std.specs.Prelude.{◌≡◌, [], true, ◌<◌, ◌≤◌, length};
@@ -12,7 +15,7 @@ ghost use Rattle.wire.specs.Wire.{put, head_of, Headed, due_value, due_number};
 use refusal::Refusal;
 use varint::VarInt;
 
-// Copies the bytes.
+/// Copies the bytes.
 #[tactic(auto, using(crate::proofs::Put::put_none, crate::proofs::Put::put_copied))]
 pub fn put_bytes(bytes: &[u8], out: &mut [u8]) -> usize
     ensures { (result, out.new) ≡ put bytes.now out.old }
@@ -24,7 +27,7 @@ pub fn put_bytes(bytes: &[u8], out: &mut [u8]) -> usize
     bytes.len()
 }
 
-// A parameter whose value is copied.
+/// A parameter whose value is copied.
 #[tactic(auto, using(crate::proofs::Put::value_off))]
 pub fn put_value(due: bool, id: u64, v: &[u8], out: &mut [u8]) -> usize
     ensures { (result, out.new) ≡ put (due_value due id v.now) out.old }
@@ -35,7 +38,8 @@ pub fn put_value(due: bool, id: u64, v: &[u8], out: &mut [u8]) -> usize
     put_due(id, v, out)
 }
 
-// One that is due; a function of its own, so that callers only test whether it is. Most identifiers and lengths are one byte.
+// One that is due; a function of its own, so that callers only test whether it is. Most identifiers
+// and lengths are one byte.
 #[tactic(auto, using(crate::proofs::Put::due_short))]
 fn put_due(id: u64, v: &[u8], out: &mut [u8]) -> usize
     ensures { (result, out.new) ≡ put (due_value true id v.now) out.old }
@@ -88,7 +92,7 @@ fn put_long(id: u64, v: &[u8], out: &mut [u8]) -> usize
     n + v.len()
 }
 
-// A parameter that holds a number.
+/// A parameter that holds a number.
 #[tactic(auto, using(crate::proofs::Put::number_off, crate::proofs::Put::kept_within))]
 pub fn put_number(due: bool, id: u64, x: u64, out: &mut [u8]) -> usize
     ensures { (result, out.new) ≡ put (due_number due id x) out.old }

@@ -1,7 +1,8 @@
 -- Laws of numbers made of bytes, most significant first. Assumes nothing.
 --     length_bytes_of, take_bytes_of    how many bytes they are; the first of them
 --     bytes_above                       what stands above them
---     value_bytes_of, bytes_value       from a number to its bytes and back; from bytes to their number and back
+--     value_bytes_of, bytes_value       from a number to its bytes and back; from bytes to their
+--                                       number and back
 --     value_lt                          how large the number is
 --     value_gathered                    the number, byte by byte
 use Prim.Native.Nat.{ℕ, zero, suc, ◌+◌, ◌*◌, ◌/◌, ◌%◌, ◌^◌, ◌≤◌, ◌<◌}

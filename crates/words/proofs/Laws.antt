@@ -8,8 +8,9 @@
 --     or_below          numbers joined bit by bit are below a power of two exactly if both are
 --     zeros_drop        zeros from a place on: the byte there, and the rest
 --     zeros_end         from the end on, only the bits met before count
---     member_drop, member_end    whether x is among the elements from a place on, and from the end on
---     joined            two numbers side by side in 64 bits
+--     member_drop, member_end    whether x is among the elements from a place on, and from the end
+--                                on
+--     or_beside         two numbers side by side in 64 bits
 --     word_append       bytes as a number, part by part
 --     zeros_word        bytes are zeros from a place on exactly if their number, shifted, is 0
 --     in_first, in_second, in_third, in_none    a number of three words, shifted, is 0
@@ -92,8 +93,8 @@ every_of f [] h = refl
 every_of f (x ∷ l) h = rw (h 0 (omega arith)) (every_of f l (λ p k. h (suc p) (omega arith)))
 
 -- two numbers side by side in 64 bits, the lower one in k of them
-pub joined : (k a b : ℕ) → a * 2 ^ k < 2 ^ 64 → b < 2 ^ k → bit_or (a * 2 ^ k % 2 ^ 64) b ≡ a * 2 ^ k + b
-joined k a b h hb = rw (mod-eq_of_lt h) (or_shifted a k b hb)
+pub or_beside : (k a b : ℕ) → a * 2 ^ k < 2 ^ 64 → b < 2 ^ k → bit_or (a * 2 ^ k % 2 ^ 64) b ≡ a * 2 ^ k + b
+or_beside k a b h hb = rw (mod-eq_of_lt h) (or_shifted a k b hb)
 
 pub word_append : (a b : List ℕ) → word_of (a ++ b) ≡ word_of a + 256 ^ length a * word_of b
 word_append [] b = omega arith

@@ -33,8 +33,8 @@ abbrev pub bytes_of : ℕ → ℕ → List ℕ
 bytes_of zero v = []
 bytes_of (suc n) v = v / 256 ^ n % 256 ∷ bytes_of n v
 
--- numbers of w bytes each, one after another: their bytes, and n numbers of some bytes. Where these end a number has the bytes that are left, and
--- then it is 0
+-- numbers of w bytes each, one after another: their bytes, and n numbers of some bytes. Where these
+-- end a number has the bytes that are left, and then it is 0
 unfoldable pub numbers_bytes : ℕ → List ℕ → List ℕ
 numbers_bytes w [] = []
 numbers_bytes w (x ∷ xs) = bytes_of w x ++ numbers_bytes w xs

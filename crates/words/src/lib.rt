@@ -5,7 +5,8 @@ ghost use Rattle.std.specs.Prelude.{◌≡◌, ◌+◌, ◌*◌, ◌/◌, ◌^�
 ghost use Rattle.refusal.specs.Outcome.{pick};
 ghost use Rattle.words.specs.Words.{zeros, Word};
 
-// The bytes of a slice from place `at` on, as an array; zeros where there are fewer. The compiler makes one load of them.
+/// The bytes of a slice from place `at` on, as an array; zeros where there are fewer. The compiler
+/// makes one load of them.
 pub fn bytes_at<const N: usize>(s: &[u8], at: usize) -> [u8; N]
     ensures { result ≡ pick (leb (at + N) (length s.now)) (take N (drop at s.now)) (replicate N 0) }
 {
@@ -55,7 +56,7 @@ fn few_zero_from<const N: usize>(b: &[u8; N], n: usize) -> bool
     words_zero_from(u, v, w, n)
 }
 
-// Whether the bytes of an array are zero from byte `n` on.
+/// Whether the bytes of an array are zero from byte `n` on.
 pub fn zero_from<const N: usize>(b: &[u8; N], n: usize) -> bool
     ensures { result ≡ zeros (drop n b.now) }
 {
@@ -66,7 +67,7 @@ pub fn zero_from<const N: usize>(b: &[u8; N], n: usize) -> bool
     all_zero(&bytes[n.min(N)..])
 }
 
-// Whether all bytes are zero.
+/// Whether all bytes are zero.
 #[tactic(auto, using(crate::proofs::Laws::zeros_drop, crate::proofs::Laws::zeros_end))]
 pub fn all_zero(v: &[u8]) -> bool
     ensures { result ≡ zeros v.now }

@@ -1,4 +1,5 @@
--- The parts of a record that are handed to the writers are fields with a value in front. Assumes nothing.
+-- The parts of a record that are handed to the writers are fields with a value in front. Assumes
+-- nothing.
 --     field_laid     what is laid of a field is its value
 --     due_or_none    a number that is there if it is due
 --     number_due, field_due, added_fits, added    one more parameter

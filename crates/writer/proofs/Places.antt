@@ -25,7 +25,7 @@ use Rattle.record.specs.Values.{number_out, optional_out, flag_out, cid_out, tok
 use Rattle.record.specs.Record.{is_present, least, formed_optional, formed_optional_cid, formed_token, formed_optional_token, formed_address, formed_reserved, formed_order, well_formed}
 use Rattle.record.proofs.KindLaws.{IfSome, Sound}
 use Rattle.record.proofs.Records.{Families, number_lt, sound}
-use Rattle.wire.specs.Wire.{due_value, due_number, number_at}
+use Rattle.wire.specs.Wire.{due_value, due_number, due_number_at}
 use Rattle.wire.specs.Stored.{joined, each}
 use Rattle.version_information.specs.VersionInformation.{formed_versions, versions_bytes}
 use Rattle.wire.proofs.Stored.{length_each}
@@ -143,8 +143,8 @@ module _ (r : TransportParameters) where
   in_catalogue_order = refl
 
   module _ (w : well_formed r ≡ true) where
-    numbers_out : (p : ℕ) → p < 11 → number_at r.numbers p ≡ parameter_at r p
-    unfolding number_at parameter_at values_of
+    numbers_out : (p : ℕ) → p < 11 → due_number_at r.numbers p ≡ parameter_at r p
+    unfolding due_number_at parameter_at values_of
     numbers_out p h =
         let n : eqb p 11 ≡ false = ne_eqb p 11 (omega arith) in
         rw (n, lt-ltb p 11 h) (number_out_lem (id_at p) (get_or defaults p 0) (get_or r.numbers p 0) (id_lt p (omega arith) n) (number_lt r w p h))
@@ -198,24 +198,24 @@ module _ (r : TransportParameters) where
     pub laid_21 : (k at : ℕ) (out st : List ℕ) {x : Laid} → x ≡ laid from21 k at out st → x ≡ laid last k at out st
     laid_21 k at out st e = rw (← last_21) e
 
-    all_places : each (number_at r.numbers) 11 ++ (five r 11 ++ (five r 16 ++ last)) ≡ each (parameter_at r) places
+    all_places : each (due_number_at r.numbers) 11 ++ (five r 11 ++ (five r 16 ++ last)) ≡ each (parameter_at r) places
     unfolding each five
-    all_places = ap (λ (ss : List (List ℕ)). ss ++ (five r 11 ++ (five r 16 ++ last))) (each_same (number_at r.numbers) (parameter_at r) 11 numbers_out)
+    all_places = ap (λ (ss : List (List ℕ)). ss ++ (five r 11 ++ (five r 16 ++ last))) (each_same (due_number_at r.numbers) (parameter_at r) 11 numbers_out)
 
-    pub all_due : each (number_at r.numbers) 11 ++ (from11 ++ (from16 ++ from21)) ≡ each (parameter_at r) places
+    pub all_due : each (due_number_at r.numbers) 11 ++ (from11 ++ (from16 ++ from21)) ≡ each (parameter_at r) places
     all_due =
-        ap₂ (λ (ss ts : List (List ℕ)). each (number_at r.numbers) 11 ++ (ss ++ ts)) five_11 (ap₂ (λ (ss ts : List (List ℕ)). ss ++ ts) five_16 last_21) ∙ all_places
+        ap₂ (λ (ss ts : List (List ℕ)). each (due_number_at r.numbers) 11 ++ (ss ++ ts)) five_11 (ap₂ (λ (ss ts : List (List ℕ)). ss ++ ts) five_16 last_21) ∙ all_places
 
-    pub room_all : (at : ℕ) (st out : List ℕ) → Room (each (parameter_at r) places) at st out → Room (each (number_at r.numbers) 11 ++ (five r 11 ++ (five r 16 ++ last))) at st out
+    pub room_all : (at : ℕ) (st out : List ℕ) → Room (each (parameter_at r) places) at st out → Room (each (due_number_at r.numbers) 11 ++ (five r 11 ++ (five r 16 ++ last))) at st out
     room_all at st out x = rw all_places x
 
     -- all four parts, one after another
-    pub whole_catalogue : (a b c n at : ℕ) (out st o₁ s₁ o₂ s₂ o₃ s₃ o₄ s₄ : List ℕ) → (a, o₁, s₁) ≡ laid (each (number_at r.numbers) 11) 1 at out st
+    pub whole_catalogue : (a b c n at : ℕ) (out st o₁ s₁ o₂ s₂ o₃ s₃ o₄ s₄ : List ℕ) → (a, o₁, s₁) ≡ laid (each (due_number_at r.numbers) 11) 1 at out st
         → (b, o₂, s₂) ≡ laid (five r 11) 12 a o₁ s₁ → (c, o₃, s₃) ≡ laid (five r 16) 17 b o₂ s₂ → (n, o₄, s₄) ≡ laid last 22 c o₃ s₃
         → (n, o₄, s₄) ≡ laid (each (parameter_at r) places) 1 at out st
     whole_catalogue a b c n at out st o₁ s₁ o₂ s₂ o₃ s₃ o₄ s₄ e₁ e₂ e₃ e₄ =
         e₄
         ∙ laid_then (five r 16) last 17 22 b c o₂ s₂ o₃ s₃ (unfold five in refl) e₃
         ∙ laid_then (five r 11) (five r 16 ++ last) 12 17 a b o₁ s₁ o₂ s₂ (unfold five in refl) e₂
-        ∙ laid_then (each (number_at r.numbers) 11) (five r 11 ++ (five r 16 ++ last)) 1 12 at a out st o₁ s₁ (rw (length_each (number_at r.numbers) 11)) e₁
+        ∙ laid_then (each (due_number_at r.numbers) 11) (five r 11 ++ (five r 16 ++ last)) 1 12 at a out st o₁ s₁ (rw (length_each (due_number_at r.numbers) 11)) e₁
         ∙ rw all_places

@@ -9,7 +9,8 @@ use Rattle.wire.specs.Stored.{joined}
 use Rattle.writer.specs.declared.Draft.{Draft}
 use Rattle.writer.specs.Writing.{parameter_at, concat_of, max_extension}
 
--- parameters behind the first `at` bytes of a buffer, and their ends from entry k of the notes on: how far they go, the buffer, the notes
+-- parameters behind the first `at` bytes of a buffer, and their ends from entry k of the notes on:
+-- how far they go, the buffer, the notes
 unfoldable pub laid : List (List ℕ) → ℕ → ℕ → List ℕ → List ℕ → ℕ × List ℕ × List ℕ
 laid [] k at out starts = (at, out, starts)
 laid (s ∷ ss) k at out starts =
@@ -31,7 +32,8 @@ pub record Field (n : ℕ) (v : List ℕ) : Type 0 where
   pub within : n ≤ length v
   pub clear : zeros (drop n v) ≡ true
 
--- room for the parameters still to be laid, zeros from there on and 32 bytes more; and an entry for each end
+-- room for the parameters still to be laid, zeros from there on and 32 bytes more; and an entry for
+-- each end
 pub record Room (ss : List (List ℕ)) (at : ℕ) (starts out : List ℕ) : Type 0 where
   pub noted : length starts ≡ places + 1
   pub within : at + length (joined ss) ≤ max_extension
@@ -43,8 +45,8 @@ pub record Next (p at : ℕ) (starts out : List ℕ) : Type 0 where
   pub place : p < places
   pub room : Room [] at starts out
 
--- OF THE CODE'S DRAFT: these are laid behind the first `at` bytes, with their ends noted from entry k on; room for these; and before the parameter
--- of a place
+-- OF THE CODE'S DRAFT: these are laid behind the first `at` bytes, with their ends noted from entry
+-- k on; room for these; and before the parameter of a place
 abbrev pub Adds : List (List ℕ) → ℕ → ℕ → Draft → ℕ → Draft → Type 0
 Adds ss k at d at' d' = (at', d'.parts, d'.starts) ≡ laid ss k at d.parts d.starts
 

@@ -1,4 +1,5 @@
--- Writing an extension (RFC 9000 section 18), as a definition: the parameters due, in the order given.
+-- Writing an extension (RFC 9000 section 18), as a definition: the parameters due, in the order
+-- given.
 use Rattle.std.specs.Prelude.{ℕ, List, [], ◌∷◌, ◌++◌, length, take, eqb}
 use Rattle.refusal.specs.Outcome.{Outcome, accepted, refused, pick, store}
 use Rattle.record.specs.declared.TransportParameters.{TransportParameters}
@@ -41,6 +42,7 @@ write r out =
     (pick (permutation (order_of r.write_order)) (store (extension r (order_of r.write_order)) out) (refused 6, out))
     (refused 7, out)
 
--- the length of a record: its parameters due, added up in catalogue order, whether or not its own order is a permutation; 7 if it is not well formed
+-- the length of a record: its parameters due, added up in catalogue order, whether or not its own
+-- order is a permutation; 7 if it is not well formed
 unfoldable pub length_of : TransportParameters → Outcome ℕ
 length_of r = pick (well_formed r) (accepted (sum places (λ p. length (parameter_at r p)))) (refused 7)

@@ -9,7 +9,7 @@ ghost use Rattle.version_information.specs.VersionInformation.{formed_versions, 
 ghost use Rattle.catalogue.specs.Catalogue.{places, id_at};
 ghost use Rattle.record.specs.Record.{is_present, least, formed_optional_cid, formed_address, formed_reserved, well_formed};
 ghost use Rattle.order.specs.Order.{permutation};
-ghost use Rattle.wire.specs.Wire.{put, due_value, due_number, number_at};
+ghost use Rattle.wire.specs.Wire.{put, due_value, due_number, due_number_at};
 ghost use Rattle.wire.specs.Stored.{Wrote, each};
 ghost use Rattle.address.specs.Address.{address_bytes};
 ghost use Rattle.writer.specs.Writing.{parameter_at, concat_of, order_of, write};
@@ -39,8 +39,9 @@ const BLOCK: usize = 16;
 // Room for any extension, and for what writers and copies store behind it.
 const SCRATCH: usize = MAX_EXTENSION + 32;
 
-// An extension in catalogue order: parameters laid one after another, and zeros behind them, so that zeros may be stored behind a parameter: fields are stored
-// whole, and numbers without a branch on their width. Arrays of the longest extension: the library has no heap.
+// An extension in catalogue order: parameters laid one after another, and zeros behind them, so
+// that zeros may be stored behind a parameter: fields are stored whole, and numbers without a
+// branch on their width. Arrays of the longest extension: the library has no heap.
 #[derive(Drop)]
 struct Draft {
     // where the parameter of each place starts, and the last one ends
@@ -48,11 +49,13 @@ struct Draft {
     parts: [u8; SCRATCH],
 }
 
-// Version information as a parameter, if it is present. Gives its byte count, 0 for nothing, as the writers of crate wire do.
+// Version information as a parameter, if it is present. Gives its byte count, 0 for nothing, as the
+// writers of crate wire do.
 #[tactic(auto, using(crate::proofs::Parts::versions_none))]
 fn put_versions(v: &VersionInformation, out: &mut [u8]) -> usize
     requires { formed_versions v.now ≡ true }
-    ensures { (result, out.new) ≡ put (due_value v.now.present (id_at 21) (versions_bytes v.now)) out.old }
+    ensures { (result, out.new)
+        ≡ put (due_value v.now.present (id_at 21) (versions_bytes v.now)) out.old }
 {
     if !v.present {
         return 0;
@@ -61,15 +64,17 @@ fn put_versions(v: &VersionInformation, out: &mut [u8]) -> usize
     put_value(true, VERSION_INFORMATION_ID, &bytes[..v.size()], out)
 }
 
-// Each lays the parameter due at a place, if it is, behind the first `at` bytes, notes where the next place starts, and gives that. `at` is no field:
-// writing a full record took 99 instructions more by one; and so what holds before a place is a clause of each, and no invariant. Three end in the same
-// two lines: a helper would be longer than what it saves. Those that several places have are inlined: as functions of their own, writing took 280 to 450
-// instructions more.
+// Each lays the parameter due at a place, if it is, behind the first `at` bytes, notes where the
+// next place starts, and gives that. `at` is no field: writing a full record took 99 instructions
+// more by one; and so what holds before a place is a clause of each, and no invariant. Three end in
+// the same two lines: a helper would be longer than what it saves. Those that several places have
+// are inlined: as functions of their own, writing took 280 to 450 instructions more.
 impl Draft {
     #[inline(always)]
     fn number(&mut self, at: usize, p: usize, o: Option<u64>) -> usize
         requires { Before p at self.old }
-        ensures { Adds (due_number (is_present o) (id_at p) (least o) ∷ []) (p + 1) at self.old result self.new }
+        ensures { Adds (due_number (is_present o) (id_at p) (least o) ∷ [])
+            (p + 1) at self.old result self.new }
     {
         let end = at + lay_number(o.is_some(), IDS[p], o.unwrap_or(0), &mut self.parts[at..]);
         self.starts[p + 1] = end;
@@ -87,7 +92,9 @@ impl Draft {
 
     fn preferred(&mut self, at: usize, a: &PreferredAddress) -> usize
         requires { (formed_address a.now ≡ true) × Before 15 at self.old }
-        ensures { Adds (due_value a.now.present (id_at 15) (address_bytes a.now) ∷ []) 16 at self.old result self.new }
+        ensures { Adds
+            (due_value a.now.present (id_at 15)
+            (address_bytes a.now) ∷ []) 16 at self.old result self.new }
     {
         let end = at + put_address(*a, &mut self.parts[at..]);
         self.starts[PREFERRED_ADDRESS + 1] = end;
@@ -96,7 +103,9 @@ impl Draft {
 
     fn versions(&mut self, at: usize, v: &VersionInformation) -> usize
         requires { (formed_versions v.now ≡ true) × Before 21 at self.old }
-        ensures { Adds (due_value v.now.present (id_at 21) (versions_bytes v.now) ∷ []) 22 at self.old result self.new }
+        ensures { Adds
+            (due_value v.now.present (id_at 21)
+            (versions_bytes v.now) ∷ []) 22 at self.old result self.new }
     {
         let end = at + put_versions(v, &mut self.parts[at..]);
         self.starts[VERSION_INFORMATION + 1] = end;
@@ -107,7 +116,8 @@ impl Draft {
     #[tactic(auto, unfolding(catalogue::specs::Catalogue::id_at, catalogue::specs::Catalogue::ids))]
     fn cid(&mut self, at: usize, p: usize, o: &Optional<ConnectionId>) -> usize
         requires { (formed_optional_cid o.now ≡ true) × Before p at self.old }
-        ensures { Adds (due_value o.now.present (id_at p) (cid_bytes o.now.value) ∷ []) (p + 1) at self.old result self.new }
+        ensures { Adds (due_value o.now.present (id_at p) (cid_bytes o.now.value) ∷ [])
+            (p + 1) at self.old result self.new }
     {
         let n = usize::from(o.value.len);
         self.field(at, p, o.present, IDS[p], n, &o.value.bytes)
@@ -115,7 +125,9 @@ impl Draft {
 
     fn reserved(&mut self, at: usize, x: &ReservedTransportParameter) -> usize
         requires { (formed_reserved x.now ≡ true) × Before 11 at self.old }
-        ensures { Adds (due_value x.now.present x.now.id (take x.now.payload_len x.now.payload) ∷ []) 12 at self.old result self.new }
+        ensures { Adds
+            (due_value x.now.present x.now.id
+            (take x.now.payload_len x.now.payload) ∷ []) 12 at self.old result self.new }
     {
         let n = usize::from(x.payload_len);
         self.field(at, RESERVED, x.present, x.id, n, &x.payload)
@@ -124,7 +136,9 @@ impl Draft {
     #[tactic(auto, using(crate::proofs::Parts::token_field), unfolding(catalogue::specs::Catalogue::id_at, catalogue::specs::Catalogue::ids))]
     fn token(&mut self, at: usize, t: &Optional<ResetToken>) -> usize
         requires { Before 12 at self.old }
-        ensures { Adds (due_value t.now.present (id_at 12) t.now.value.bytes ∷ []) 13 at self.old result self.new }
+        ensures { Adds
+            (due_value t.now.present
+            (id_at 12) t.now.value.bytes ∷ []) 13 at self.old result self.new }
     {
         self.field(
             at,
@@ -146,12 +160,13 @@ impl Draft {
     }
 }
 
-// Each lays those due at some places, then at all of them. Numbers go by place: they and their defaults are two tables. That the record is well formed is
-// asked of three: a type that says so would wrap it for these.
+// Each lays those due at some places, then at all of them. Numbers go by place: they and their
+// defaults are two tables. That the record is well formed is asked of three: a type that says so
+// would wrap it for these.
 impl Draft {
     fn numbers(&mut self, numbers: &[u64; NUMBERS]) -> usize
-        requires { RoomFor (each (number_at numbers.now) 11) 0 self.old }
-        ensures { Adds (each (number_at numbers.now) 11) 1 0 self.old result self.new }
+        requires { RoomFor (each (due_number_at numbers.now) 11) 0 self.old }
+        ensures { Adds (each (due_number_at numbers.now) 11) 1 0 self.old result self.new }
     {
         let mut at: usize = 0;
         for p in 0..NUMBERS {
@@ -184,7 +199,8 @@ impl Draft {
     }
 
     fn catalogue(&mut self, r: &TransportParameters) -> usize
-        requires { (well_formed r.now ≡ true) × RoomFor (each (parameter_at r.now) places) 0 self.old }
+        requires { (well_formed r.now ≡ true)
+            × RoomFor (each (parameter_at r.now) places) 0 self.old }
         ensures { Adds (each (parameter_at r.now) places) 1 0 self.old result self.new }
     {
         let a = self.numbers(&r.numbers);
@@ -194,8 +210,9 @@ impl Draft {
     }
 }
 
-// Stores the first `len` bytes of what lies there. Where sixteen more are still to come behind them, of the `room` there is, they are copied sixteen at
-// a time, over the end: no branch goes by how many of sixteen there are, which in an order of its own is guessed wrong.
+// Stores the first `len` bytes of what lies there. Where sixteen more are still to come behind
+// them, of the `room` there is, they are copied sixteen at a time, over the end: no branch goes by
+// how many of sixteen there are, which in an order of its own is guessed wrong.
 fn put_part(len: usize, room: usize, part: &[u8], out: &mut [u8])
     requires { Fit len room part.now out.old }
     ensures { Front len room part.now out.old out.new }
@@ -210,9 +227,10 @@ fn put_part(len: usize, room: usize, part: &[u8], out: &mut [u8])
     }
 }
 
-// Copies the bytes by a loop: `copy_from_slice` is a call for each part, most of them empty, and tests each time that the two are apart. By it writing a
-// small record in an order took 320 instructions more, others 110. By index: over pairs of `zip` it is as long, and its proof would say of each reference
-// what it held at last.
+// Copies the bytes by a loop: `copy_from_slice` is a call for each part, most of them empty, and
+// tests each time that the two are apart. By it writing a small record in an order took 320
+// instructions more, others 110. By index: over pairs of `zip` it is as long, and its proof would
+// say of each reference what it held at last.
 #[tactic(auto, using(wire::proofs::Stored::front_paste, crate::proofs::Ordered::copied))]
 fn put_few(bytes: &[u8], out: &mut [u8])
     requires { length bytes.now ≤ length out.old }
@@ -226,8 +244,11 @@ fn put_few(bytes: &[u8], out: &mut [u8])
 impl Draft {
     // Copies the `n` bytes that are laid, in an order.
     fn put_ordered(&self, n: usize, order: &[u8; PLACES], out: &mut [u8]) -> usize
-        requires { InOrder order.now self.now.starts self.now.parts × (n ≡ length (concat_of (part_at self.now.starts self.now.parts) order.now)) × (n ≤ length out.old) }
-        ensures { Wrote (length out.old) (concat_of (part_at self.now.starts self.now.parts) order.now) out.old result out.new }
+        requires { InOrder order.now self.now.starts self.now.parts
+            × (n ≡ length (concat_of (part_at self.now.starts self.now.parts) order.now))
+            × (n ≤ length out.old) }
+        ensures { Wrote (length out.old)
+            (concat_of (part_at self.now.starts self.now.parts) order.now) out.old result out.new }
     {
         let mut at: usize = 0;
         for place in order {
@@ -244,7 +265,8 @@ impl Draft {
     #[tactic(auto, using(wire::proofs::Stored::stored_short, crate::proofs::Answers::laid_count))]
     fn put(&self, n: usize, order: &WriteOrder, out: &mut [u8]) -> Result<usize, Refusal>
         requires { Ready n order.now.present order.now.places self.now.starts self.now.parts }
-        ensures { (outcome_of result, out.new) ≡ store (bytes_in n order.now.present order.now.places self.now.starts self.now.parts) out.old }
+        ensures { (outcome_of result, out.new)
+            ≡ store (bytes_in n order.now.present order.now.places self.now.starts self.now.parts) out.old }
     {
         if out.len() < n {
             return Err(Refusal::BufferTooShort);
@@ -264,11 +286,11 @@ fn is_order(w: &WriteOrder) -> bool
     !w.present || is_permutation(&w.places)
 }
 
-// Writes the record to the front of `out`, in its order. It is laid in an array first, so that the count is known before a byte of `out` is
-// touched.
+/// Writes the record to the front of `out`, in its order. It is laid in an array first, so that the
+/// count is known before a byte of `out` is touched.
 #[tactic(auto, using(crate::proofs::Answers::write_ill, crate::proofs::Answers::write_invalid, words::proofs::Laws::zeros_replicate, order::proofs::Orders::in_catalogue, crate::proofs::Extension::longest, crate::proofs::Places::in_catalogue_order), unfolding(crate::specs::Writing::order_of))]
-pub fn write(r: TransportParameters, out: &mut [u8]) -> Result<usize, Refusal>
-    ensures { (outcome_of result, out.new) ≡ write r out.old }
+pub fn write(r: &TransportParameters, out: &mut [u8]) -> Result<usize, Refusal>
+    ensures { (outcome_of result, out.new) ≡ write r.now out.old }
 {
     if !r.is_well_formed() {
         return Err(Refusal::IllFormed);
@@ -280,6 +302,6 @@ pub fn write(r: TransportParameters, out: &mut [u8]) -> Result<usize, Refusal>
         starts: [0; PLACES + 1],
         parts: [0; SCRATCH],
     };
-    let n = draft.catalogue(&r);
+    let n = draft.catalogue(r);
     draft.put(n, &r.write_order, out)
 }

@@ -1,5 +1,6 @@
--- What the functions of the C interface answer and leave behind their pointers, by the definitions of the operations. A code is 0 or the
--- number of a refusal, and a refused call leaves everything as it was.
+-- What the functions of the C interface answer and leave behind their pointers, by the definitions
+-- of the operations. A code is 0 or the number of a refusal, and a refused call leaves everything
+-- as it was.
 use Rattle.std.specs.Prelude.{ℕ, List, not, length, get_or, replicate, eqb}
 use Rattle.std.proofs.Math.Option.{Option, none, some}
 use Rattle.refusal.specs.Outcome.{Outcome, accepted, refused, pick, and_then, store}
@@ -111,7 +112,8 @@ tidied side src out n = counted (tidy (side_of side) src out) n
 abbrev pub reported : ℕ → List ℕ → Counts → ℕ × Counts
 reported side src c = (code (report (side_of side) src), value_or c (report (side_of side) src))
 
--- BUILDING. The settings in the order of the header: an idle timeout of 0 is none, and so is a buffer size without its flag
+-- BUILDING. The settings in the order of the header: an idle timeout of 0 is none, and so is a
+-- buffer size without its flag
 abbrev pub settings_from : List ℕ → Settings
 settings_from s =
     record {

@@ -1,5 +1,6 @@
-// The C interface, exported: each function of bindings/c/yuthpram.h is that of crate yuthpram, with its contract. They stand in two crates because
-// one is a library or a static library, and replay calls them as a library's.
+// The C interface, exported: each function of bindings/c/yuthpram.h is that of crate yuthpram, with
+// its contract. They stand in two crates because one is a library or a static library, and replay
+// calls them as a library's.
 #![tactic(auto)]
 
 ghost use Rattle.std.specs.Prelude.{◌≡◌};
@@ -21,7 +22,8 @@ pub extern "C" fn yuthpram_number_read(
     count: &mut usize,
     saved: &mut usize,
 ) -> u8
-    ensures { (result, value.new, count.new, saved.new) ≡ number_read src.now value.old count.old saved.old }
+    ensures { (result, value.new, count.new, saved.new)
+        ≡ number_read src.now value.old count.old saved.old }
 {
     yuthpram::yuthpram_number_read(src, value, count, saved)
 }
@@ -119,7 +121,8 @@ pub extern "C" fn yuthpram_new(
     order: &[u8],
     record: &mut [u8],
 ) -> u8
-    ensures { (result, «record».new) ≡ record_new settings.now cid.now draw payload.now order.now «record».old }
+    ensures { (result, «record».new)
+        ≡ record_new settings.now cid.now draw payload.now order.now «record».old }
 {
     yuthpram::yuthpram_new(settings, cid, draw, payload, order, record)
 }
@@ -147,7 +150,8 @@ pub extern "C" fn yuthpram_authenticate_cids(
     retry_seen: u8,
     retry_src_cid: &[u8],
 ) -> u8
-    ensures { result ≡ ids_check side «record».now initial_src_cid.now original_dst_cid.now retry_seen retry_src_cid.now }
+    ensures { result
+        ≡ ids_check side «record».now initial_src_cid.now original_dst_cid.now retry_seen retry_src_cid.now }
 {
     yuthpram::yuthpram_authenticate_cids(
         side,

@@ -1,4 +1,5 @@
--- How a command ends, by what the library gives: an outcome, or the first fault of an order; and what a command hands to it.
+-- How a command ends, by what the library gives: an outcome, or the first fault of an order; and
+-- what a command hands to it.
 use Rattle.std.specs.Prelude.{ℕ, is_some, replicate}
 use Rattle.std.specs.Option.{unwrap_or}
 use Rattle.std.proofs.Math.Option.{Option, none, some}

@@ -43,7 +43,8 @@ fn note_length(out: &mut Out, record: &[u8]) {
     }
 }
 
-// The first `n` of some bytes, all if there are fewer: the library, which has no heap, stores into a buffer and tells how many bytes.
+// The first `n` of some bytes, all if there are fewer: the library, which has no heap, stores into
+// a buffer and tells how many bytes.
 fn first(n: usize, bytes: &[u8]) -> &[u8] {
     bytes.get(..n).unwrap_or(bytes)
 }
@@ -53,7 +54,7 @@ fn say_hex(out: &mut Out, bytes: &[u8]) {
     out.say(format_args!("{digits}\n"));
 }
 
-// Reads an extension, and shows it: before the record stands its length.
+/// Reads an extension, and shows it: before the record stands its length.
 pub fn read(out: &mut Out, side: Side, src: &[u8]) -> Status
     ensures { result ≡ status_of (read side src.now) }
 {
@@ -62,13 +63,13 @@ pub fn read(out: &mut Out, side: Side, src: &[u8]) -> Status
         Err(r) => return unread(out, side, r, src),
     };
     let mut record = [0u8; RECORD_SIZE];
-    let _ = image::image_to(parameters, &mut record);
+    let _ = image::image_to(&parameters, &mut record);
     note_length(out, &record);
     show::show(out, &record);
     Status::Answered
 }
 
-// Tells whether an extension is accepted.
+/// Tells whether an extension is accepted.
 pub fn check(out: &mut Out, side: Side, src: &[u8]) -> Status
     ensures { result ≡ status_of (read side src.now) }
 {
@@ -86,7 +87,7 @@ fn order_in(record: &[u8; RECORD_SIZE]) -> &[u8] {
     &record[ORDER_AT..ORDER_AT + PLACES]
 }
 
-// Tells what is wrong with an order.
+/// Tells what is wrong with an order.
 pub fn order_fault(out: &mut Out, order: &[u8]) -> Status
     ensures { result ≡ fault_status (order_fault order.now) }
 {
@@ -103,7 +104,7 @@ pub fn order_fault(out: &mut Out, order: &[u8]) -> Status
     }
 }
 
-// Writes a record, by its image.
+/// Writes a record, by its image.
 pub fn write(out: &mut Out, record: &[u8; RECORD_SIZE]) -> Status {
     let mut bytes = [0u8; MAX_EXTENSION];
     match by_image::write(record, &mut bytes) {
@@ -117,7 +118,7 @@ pub fn write(out: &mut Out, record: &[u8; RECORD_SIZE]) -> Status {
     }
 }
 
-// Tells the length of a record, by its image.
+/// Tells the length of a record, by its image.
 pub fn length(out: &mut Out, record: &[u8]) -> Status
     ensures { result ≡ status_of (image_length «record».now) }
 {
@@ -131,7 +132,8 @@ pub fn length(out: &mut Out, record: &[u8]) -> Status
     }
 }
 
-// Tells whether a record may be resumed to from a remembered one, by the images of both, and if not, which limits it reduces.
+/// Tells whether a record may be resumed to from a remembered one, by the images of both, and if
+/// not, which limits it reduces.
 pub fn validate_resumption_from(out: &mut Out, record: &[u8], cached: &[u8]) -> Status
     ensures { result ≡ status_of (image_resume «record».now cached.now) }
 {
@@ -148,7 +150,8 @@ pub fn validate_resumption_from(out: &mut Out, record: &[u8], cached: &[u8]) -> 
     Status::Refused
 }
 
-// Tells whether the peer with this record, by its image, is the one that packets came from, and if not, which IDs differ.
+/// Tells whether the peer with this record, by its image, is the one that packets came from, and if
+/// not, which IDs differ.
 pub fn authenticate_cids(out: &mut Out, side: Side, record: &[u8], seen: &SeenImages) -> Status
     ensures { result ≡ status_of (image_authenticate side «record».now (seen_of seen.now)) }
 {
@@ -173,7 +176,8 @@ pub fn authenticate_cids(out: &mut Out, side: Side, record: &[u8], seen: &SeenIm
     Status::Refused
 }
 
-// Which rule a record breaks: that which its extension breaks, or that no family that is given is all zero.
+// Which rule a record breaks: that which its extension breaks, or that no family that is given is
+// all zero.
 fn note_rule(out: &mut Out, side: Side, record: &[u8]) {
     let mut bytes = [0u8; MAX_EXTENSION];
     if let Ok(n) = by_image::write(record, &mut bytes) {
@@ -181,7 +185,7 @@ fn note_rule(out: &mut Out, side: Side, record: &[u8]) {
     }
 }
 
-// Checks a record, by its image.
+/// Checks a record, by its image.
 pub fn check_record(out: &mut Out, side: Side, record: &[u8]) -> Status
     ensures { result ≡ status_of (image_check «record».now side) }
 {
@@ -215,7 +219,7 @@ pub fn tidy(out: &mut Out, side: Side, src: &[u8]) -> Status
     }
 }
 
-// Shows where the bytes of an extension go.
+/// Shows where the bytes of an extension go.
 pub fn report(out: &mut Out, alloc: Global, side: Side, src: &[u8]) -> Status
     ensures { result ≡ status_of (report side src.now) }
 {

@@ -8,30 +8,30 @@ use text::HexError;
 
 #[derive(Drop)]
 pub enum Complaint<'a> {
-    // words that no command takes
+    /// words that no command takes
     NoCommand,
     Surplus,
     NotDecimal,
     NoRemembered,
     NoIds,
     NoSide,
-    // a connection ID that is none
+    /// a connection ID that is none
     NoId,
-    // the input
+    /// the input
     TooLong,
     NoDigit(usize),
     OddDigits,
     NoEntry(usize),
     ManyEntries,
     NotUtf8(&'a [u8]),
-    // what could not be read, and why
+    /// what could not be read, and why
     Unread(&'a str, Error),
     Slip(Slip),
     NoMemory,
 }
 
 impl<'a> Complaint<'a> {
-    // Whether it is about words that no command takes.
+    /// Whether it is about words that no command takes.
     pub fn is_of_usage(&self) -> bool {
         matches!(
             self,

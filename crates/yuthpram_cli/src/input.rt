@@ -23,8 +23,8 @@ const PATH_LIMIT: usize = 4096;
 
 const DIGIT_LIMIT: usize = 32;
 
-// The words of the command line, of which the first is the program's name, and the system, which has what they name. In place of a word of over
-// `TEXT_LIMIT` bytes stands none.
+/// The words of the command line, of which the first is the program's name, and the system, which
+/// has what they name. In place of a word of over `TEXT_LIMIT` bytes stands none.
 #[derive(Drop)]
 pub struct Args<'r> {
     rt: &'r HostRuntime,
@@ -60,7 +60,7 @@ impl<'r> Args<'r> {
         i < self.words.len()
     }
 
-    // Whether there are words behind word `i`.
+    /// Whether there are words behind word `i`.
     pub fn is_followed(&self, i: usize) -> bool
         ensures { result ≡ nat_lt (i + 1) (vec_len self.now.words) }
     {
@@ -78,7 +78,7 @@ impl<'r> Args<'r> {
         }
     }
 
-    // Word `i`, as the name of a command, an option or a side.
+    /// Word `i`, as the name of a command, an option or a side.
     pub fn name(&self, i: usize) -> &[u8]
         ensures there { vec_len self.now.words ≤ i → length result.now ≡ 0 }
         ensures short { length result.now ≤ 262144 }
@@ -86,7 +86,7 @@ impl<'r> Args<'r> {
         self.word(i, TEXT_LIMIT)
     }
 
-    // The number that word `i` is.
+    /// The number that word `i` is.
     #[tactic(auto, using(text::proofs::Decimals::empty))]
     pub fn number(&self, i: usize) -> Option<u64>
         ensures { vec_len self.now.words ≤ i → result ≡ None }
@@ -94,7 +94,7 @@ impl<'r> Args<'r> {
         parse_decimal(self.word(i, DIGIT_LIMIT))
     }
 
-    // The side that word 2 names.
+    /// The side that word 2 names.
     pub fn side(&self) -> Result<Side, Complaint<'_>>
         ensures { IfErr result (λ e. e ≡ Complaint.NoSide) }
     {
@@ -137,14 +137,14 @@ impl<'r> Args<'r> {
         }
     }
 
-    // The record whose text form that is; by its image.
+    /// The record whose text form that is; by its image.
     pub fn record_at(&self, i: usize) -> Result<[u8; RECORD_SIZE], Complaint<'_>> {
         let text = self.file_at(i)?;
         let record = form::image_of(text.as_slice())?;
         Ok(record)
     }
 
-    // The same of the last word.
+    /// The same of the last word.
     pub fn last_record_at(&self, i: usize) -> Result<[u8; RECORD_SIZE], Complaint<'_>>
         ensures { i + 1 < vec_len self.now.words → IsErrOf result Complaint.Surplus }
     {
@@ -154,10 +154,11 @@ impl<'r> Args<'r> {
         self.record_at(i)
     }
 
-    // The connection ID that word `i` is; by its image.
+    /// The connection ID that word `i` is; by its image.
     pub fn cid_at(&self, i: usize) -> Result<[u8; CID_SIZE], Complaint<'_>>
         ensures none { vec_len self.now.words ≤ i → IsErrOf result Complaint.NoIds }
-        ensures one { i < vec_len self.now.words → IfErr result (λ e. (e ≡ Complaint.NoId) ⊎ (e ≡ Complaint.TooLong)) }
+        ensures one { i < vec_len self.now.words
+            → IfErr result (λ e. (e ≡ Complaint.NoId) ⊎ (e ≡ Complaint.TooLong)) }
     {
         match self.words.get(i) {
             Some(Some(digits)) => {
@@ -168,7 +169,7 @@ impl<'r> Args<'r> {
         }
     }
 
-    // The IDs that words 3 to 5 say packets carried.
+    /// The IDs that words 3 to 5 say packets carried.
     pub fn seen(&self) -> Result<SeenImages, Complaint<'_>>
         ensures { IfOk result (λ seen. 5 < vec_len self.now.words) }
     {
@@ -194,7 +195,8 @@ impl<'r> Args<'r> {
         }
     }
 
-    // Bytes, in hexadecimal by the words from word `start` on or in standard input, or by --raw as standard input has them.
+    /// Bytes, in hexadecimal by the words from word `start` on or in standard input, or by --raw as
+    /// standard input has them.
     pub fn bytes_at(&self, start: usize) -> Result<Vec<u8>, Complaint<'_>>
         ensures { IfOk result (λ bytes. vec_len bytes ≤ 65536) }
     {
@@ -211,7 +213,8 @@ impl<'r> Args<'r> {
         Ok(bytes)
     }
 
-    // The entries of an order that the words from word `start` on are, or standard input lists: decimal numbers below 256.
+    /// The entries of an order that the words from word `start` on are, or standard input lists:
+    /// decimal numbers below 256.
     pub fn entries_at(&self, start: usize) -> Result<Vec<u8>, Complaint<'_>>
         ensures { IfOk result (λ entries. vec_len entries ≤ 255) }
     {

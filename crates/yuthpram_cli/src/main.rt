@@ -1,4 +1,5 @@
-// The command-line tool: a thin program over the library. It reads text, prints answers and decides nothing about extensions.
+// The command-line tool: a thin program over the library. It reads text, prints answers and decides
+// nothing about extensions.
 #![tactic(auto)]
 
 mod answers;
@@ -11,12 +12,12 @@ use input::Args;
 use std::process::ExitCode;
 use text::out::{Fate, Out};
 
-// How a command ends.
+/// How a command ends.
 #[derive(Clone, Copy)]
 pub enum Status {
     Answered,
     Refused,
-    // not called as it should be
+    /// not called as it should be
     Misused,
 }
 

@@ -1,4 +1,5 @@
--- `address::put_cid_and_token` meets its contract: a well-formed ID is not refused. Assumes nothing.
+-- `address::put_cid_and_token` meets its contract: a well-formed ID is not refused. Assumes
+-- nothing.
 use native.Mathlib.Omega.{arith}
 use mathlib.Core.Path.{◌≡◌}
 use lib.ListN.{length}

@@ -1,4 +1,5 @@
--- `put_versions` is safe: a chosen version and at most 16 available ones are stored. Assumes nothing.
+-- `put_versions` is safe: a chosen version and at most 16 available ones are stored. Assumes
+-- nothing.
 use Rattle.std.proofs.Common.{◌≤◌}
 use Rattle.form.proofs.put_versions.Given as goal
 

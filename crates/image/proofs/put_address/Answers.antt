@@ -15,4 +15,4 @@ returns c =
     (group {k = 199} (family_parts (of_v4 a.address_v4)) c.put_family.ensures.stored (omega arith)
     (group {k = 218} (family_parts (of_v6 a.address_v6)) c.put_family-2.ensures.stored (omega arith)
     (behind {k = 239} c.put_cid.ensures.stored refl refl (omega arith)
-    (put c.put_bytes.ensures refl done)))))
+    (put c.put_array.ensures refl done)))))

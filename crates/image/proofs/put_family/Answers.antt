@@ -17,4 +17,4 @@ returns-clause-stored g c =
     let port : c.to_be_bytes.result ≡ bytes_of 2 a.port = search rules in
     laid c.args.out.now at (family_parts (of_address a))
     (behind {k = at + 1 + g.row.N} c.put_behind.ensures.stored (flag_stored a.present c.from.ensures) refl (omega arith)
-    (put (c.put_bytes.ensures ∙ ap (sets c.put_behind.new.out (at + 1 + g.row.N)) port) refl done))
+    (put (c.put_array.ensures ∙ ap (sets c.put_behind.new.out (at + 1 + g.row.N)) port) refl done))

@@ -1,4 +1,5 @@
--- `image::put_numbers` meets its contract. The invariant: the first `i` numbers are stored. Assumes nothing.
+-- `image::put_numbers` meets its contract. The invariant: the first `i` numbers are stored. Assumes
+-- nothing.
 use mathlib.Core.Path.{◌≡◌}
 use lib.ListN.{take}
 use lib.Seq.{sets}

@@ -1,4 +1,5 @@
--- `imaged::flags_hold` meets its contract. The invariant: what was met and what is left to test decide. Assumes nothing.
+-- `imaged::flags_hold` meets its contract. The invariant: what was met and what is left to test
+-- decide. Assumes nothing.
 use mathlib.Core.Path.{◌≡◌}
 use Rattle.image.specs.Image.{flags_hold}
 use Rattle.imaged.proofs.Places.{flags_from}

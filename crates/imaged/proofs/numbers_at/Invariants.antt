@@ -1,4 +1,5 @@
--- `imaged::numbers_at` meets its contract. The invariant: each number that was met stands in its place. Assumes nothing.
+-- `imaged::numbers_at` meets its contract. The invariant: each number that was met stands in its
+-- place. Assumes nothing.
 use mathlib.Core.Path.{◌≡◌}
 use Prim.Native.Nat.{ℕ, ◌*◌, ◌<◌}
 use lib.ListN.{get_or}

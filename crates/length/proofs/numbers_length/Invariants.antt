@@ -1,4 +1,5 @@
--- `length::numbers_length` meets its contract. The invariant: `n` is the sum below `p`. Assumes nothing.
+-- `length::numbers_length` meets its contract. The invariant: `n` is the sum below `p`. Assumes
+-- nothing.
 use Prim.Native.Nat.{◌*◌, ◌^◌, ◌≤◌}
 use mathlib.Core.Path.{◌≡◌}
 use Rattle.catalogue.specs.Sum.{sum}

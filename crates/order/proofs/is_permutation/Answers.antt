@@ -1,4 +1,5 @@
--- `order::is_permutation` meets its contract: nothing is wrong exactly with a permutation. Assumes nothing.
+-- `order::is_permutation` meets its contract: nothing is wrong exactly with a permutation. Assumes
+-- nothing.
 use Rattle.order.proofs.Faults.{answered}
 use Rattle.order.proofs.is_permutation.Goals as goal
 

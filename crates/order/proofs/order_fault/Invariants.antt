@@ -1,4 +1,5 @@
--- `order::order_fault` meets its contract. The invariant: no entry before `i` is at fault, and these are marked. Assumes nothing.
+-- `order::order_fault` meets its contract. The invariant: no entry before `i` is at fault, and
+-- these are marked. Assumes nothing.
 use mathlib.Core.Path.{◌≡◌}
 use mathlib.Core.Option.{none}
 use lib.ListN.{take}

@@ -4,7 +4,7 @@ use mathlib.Core.Path.{refl, ◌∙◌}
 use Rattle.catalogue.specs.Catalogue.{cid, token, address, kind_at, kinds, other_kinds}
 use Rattle.record.proofs.Defaults.{reserved_absent, order_absent}
 use Rattle.index.proofs.Parts.{of_bytes}
-use Rattle.reader.specs.Kept.{record_from}
+use Rattle.reader.specs.Kept.{record_kept}
 use Rattle.reader.proofs.Indexed.{kept_fits, no_number, cid_no, token_no, address_no}
 use Rattle.reader.proofs.record_of.Goals as goal
 
@@ -29,7 +29,7 @@ unfolding kind_at kinds other_kinds
 address_in-requires c = rw (c.value-5.ensures ∙ of_bytes _ _ 15 (omega arith) (no_number 15 address refl address_no)) (kept_fits address _ _ c.args.kept.now.sound 15 refl address_no)
 
 pub returns : goal.returns
-unfolding record_from kind_at kinds other_kinds
+unfolding record_kept kind_at kinds other_kinds
 returns c =
     let x = c.default.ensures in
     let o = c.default-2.ensures in

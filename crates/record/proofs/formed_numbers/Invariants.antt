@@ -1,4 +1,5 @@
--- `record::formed_numbers` meets its contract. The invariant: the bits met, and the rest, are below 2 ^ 62 exactly if all are. Assumes nothing.
+-- `record::formed_numbers` meets its contract. The invariant: the bits met, and the rest, are below
+-- 2 ^ 62 exactly if all are. Assumes nothing.
 use mathlib.Core.Path.{◌≡◌}
 use mathlib.Core.Bool.{◌&&◌}
 use lib.ListN.{drop}

@@ -1,4 +1,5 @@
--- `parse_decimal`: the characters before `b` are digits, and `value` is their number. Assumes nothing.
+-- `parse_decimal`: the characters before `b` are digits, and `value` is their number. Assumes
+-- nothing.
 use mathlib.Core.Path.{◌≡◌}
 use mathlib.Core.Bool.{true}
 use lib.ListN.{take}

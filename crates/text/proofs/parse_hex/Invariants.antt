@@ -1,4 +1,5 @@
--- `parse_hex`: the digits among the first `i` characters, none of which is strange, are stored. Assumes nothing.
+-- `parse_hex`: the digits among the first `i` characters, none of which is strange, are stored.
+-- Assumes nothing.
 use Prim.Native.Nat.{◌≤◌}
 use Rattle.text.proofs.Hexes.{Met}
 use Rattle.text.proofs.parse_hex.Given as goal

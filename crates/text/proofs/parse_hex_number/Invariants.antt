@@ -1,4 +1,5 @@
--- `parse_hex_number`: the characters before `b` are digits, and `value` is their number. Assumes nothing.
+-- `parse_hex_number`: the characters before `b` are digits, and `value` is their number. Assumes
+-- nothing.
 use Rattle.text.proofs.HexNumbers.{Read}
 use Rattle.text.proofs.parse_hex_number.Given as goal
 

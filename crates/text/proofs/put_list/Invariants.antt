@@ -1,4 +1,5 @@
--- `put_list`: the words behind the first `i`, or from word `k` on, are still to come; those from `from` on are stored. Assumes nothing.
+-- `put_list`: the words behind the first `i`, or from word `k` on, are still to come; those from
+-- `from` on are stored. Assumes nothing.
 use Rattle.std.proofs.Common.{min}
 use Rattle.text.specs.Text.{words_in}
 use Rattle.text.proofs.Lists.{Listed}

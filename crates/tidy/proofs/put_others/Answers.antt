@@ -1,4 +1,5 @@
--- `tidy::put_others` meets its contract. The invariant: the places before this one are laid. Assumes nothing.
+-- `tidy::put_others` meets its contract. The invariant: the places before this one are laid.
+-- Assumes nothing.
 use Prim.Native.Nat.{◌+◌, ◌-◌}
 use native.Mathlib.Omega.{arith}
 use mathlib.Core.List.{[]}

@@ -1,4 +1,5 @@
--- `timing::timing_read` meets its contract. The invariant: what is kept is what the last of the calls so far gave. Assumes nothing.
+-- `timing::timing_read` meets its contract. The invariant: what is kept is what the last of the
+-- calls so far gave. Assumes nothing.
 use mathlib.Core.Path.{◌≡◌}
 use Rattle.rules.specs.declared.Side.TheVariants.{Client}
 use Rattle.reader.specs.Reading.{read}

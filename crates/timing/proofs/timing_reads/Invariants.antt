@@ -1,4 +1,5 @@
--- `timing::timing_reads` meets its contract. The invariant: the position and what was kept are those of the calls so far. Assumes nothing.
+-- `timing::timing_reads` meets its contract. The invariant: the position and what was kept are
+-- those of the calls so far. Assumes nothing.
 use Prim.Native.Nat.{◌≤◌}
 use mathlib.Core.Path.{◌≡◌}
 use lib.ListN.{length}

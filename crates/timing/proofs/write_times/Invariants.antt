@@ -1,4 +1,5 @@
--- `timing::write_times` meets its contract. The invariant: the answer and the buffer are those of the calls so far. Assumes nothing.
+-- `timing::write_times` meets its contract. The invariant: the answer and the buffer are those of
+-- the calls so far. Assumes nothing.
 use mathlib.Core.Path.{◌≡◌}
 use Rattle.timing.specs.Timing.{again, repeat}
 use Rattle.timing.proofs.write_times.Given as goal

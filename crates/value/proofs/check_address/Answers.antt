@@ -1,4 +1,5 @@
--- `value::check_address` meets its contract: the tests that led to each `return` pick the case. Assumes nothing.
+-- `value::check_address` meets its contract: the tests that led to each `return` pick the case.
+-- Assumes nothing.
 use native.Mathlib.Omega.{arith}
 use mathlib.Core.Path.{sym, ◌∙◌}
 use Rattle.value.proofs.Checks.{address_illegal, address_judged}

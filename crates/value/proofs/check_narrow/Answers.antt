@@ -1,4 +1,5 @@
--- `value::check_narrow` meets its contract: the tests that led to each `return` tell the kind. Assumes nothing.
+-- `value::check_narrow` meets its contract: the tests that led to each `return` tell the kind.
+-- Assumes nothing.
 use mathlib.Core.Path.{refl, sym, ◌∙◌}
 use Rattle.catalogue.specs.Catalogue.{number, flag, cid, token, address, versions, reserved, fits, illegal}
 use Rattle.value.specs.Value.{held_of, check_kind}

@@ -1,4 +1,5 @@
--- `version_information::all_zero` meets its contract. The invariant: no bit was met, and the rest are zeros, exactly if all are. Assumes nothing.
+-- `version_information::all_zero` meets its contract. The invariant: no bit was met, and the rest
+-- are zeros, exactly if all are. Assumes nothing.
 use mathlib.Core.Path.{◌≡◌}
 use mathlib.Core.Bool.{◌&&◌}
 use lib.ListN.{drop}

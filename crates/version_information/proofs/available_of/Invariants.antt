@@ -1,4 +1,5 @@
--- `version_information::available_of` meets its contract. The invariant: each version that was met stands in its place. Assumes nothing.
+-- `version_information::available_of` meets its contract. The invariant: each version that was met
+-- stands in its place. Assumes nothing.
 use mathlib.Core.Path.{◌≡◌}
 use Prim.Native.Nat.{ℕ, ◌+◌, ◌*◌, ◌<◌}
 use lib.ListN.{get_or, take, drop}

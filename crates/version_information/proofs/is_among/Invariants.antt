@@ -1,4 +1,5 @@
--- `version_information::is_among` meets its contract. The invariant: it was met, or is among the rest, exactly if it is among all. Assumes nothing.
+-- `version_information::is_among` meets its contract. The invariant: it was met, or is among the
+-- rest, exactly if it is among all. Assumes nothing.
 use mathlib.Core.Path.{◌≡◌}
 use mathlib.Core.Bool.{◌||◌}
 use lib.ListN.{drop}

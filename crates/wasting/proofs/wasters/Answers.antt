@@ -1,4 +1,5 @@
--- `wasters` meets its contract: the comparison is an order, in which the sort puts them. Assumes nothing.
+-- `wasters` meets its contract: the comparison is an order, in which the sort puts them. Assumes
+-- nothing.
 use mathlib.Core.Path.{◌≡◌, ap, ◌∙◌}
 use lib.Dec.{ltb}
 use denote.Ref.{Bor}

@@ -1,4 +1,5 @@
--- `words::all_zero` meets its contract. The invariant: no bit was met, and the rest are zeros, exactly if all are. Assumes nothing.
+-- `words::all_zero` meets its contract. The invariant: no bit was met, and the rest are zeros,
+-- exactly if all are. Assumes nothing.
 use mathlib.Core.Path.{◌≡◌}
 use mathlib.Core.Bool.{◌&&◌}
 use lib.ListN.{drop}

@@ -1,4 +1,5 @@
--- `words::few_zero_from` meets its contract: the bytes make the words, and the zeros behind them change nothing. Assumes nothing.
+-- `words::few_zero_from` meets its contract: the bytes make the words, and the zeros behind them
+-- change nothing. Assumes nothing.
 use Prim.Native.Nat.{ℕ, ◌-◌}
 use mathlib.Core.Path.{◌≡◌, ap, ◌∙◌}
 use mathlib.Core.List.{List, ◌++◌}

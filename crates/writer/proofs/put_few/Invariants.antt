@@ -1,4 +1,5 @@
--- `writer::put_few` meets its contract. The invariant: the first `i` bytes stand at the front. Assumes nothing.
+-- `writer::put_few` meets its contract. The invariant: the first `i` bytes stand at the front.
+-- Assumes nothing.
 use mathlib.Core.Path.{◌≡◌}
 use lib.Seq.{paste}
 use Rattle.writer.proofs.put_few.Given as goal

@@ -1,4 +1,5 @@
--- `writer::put_part` meets its contract. The invariant: the first `i` bytes stand at the front. Assumes nothing.
+-- `writer::put_part` meets its contract. The invariant: the first `i` bytes stand at the front.
+-- Assumes nothing.
 use Prim.Native.Nat.{◌+◌, ◌≤◌}
 use Rattle.writer.specs.Laid.{Front}
 use Rattle.writer.proofs.put_part.Given as goal

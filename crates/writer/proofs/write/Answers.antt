@@ -1,4 +1,5 @@
--- `writer::write` meets its contract: the tests that led to each `return` pick the case of the definition. Assumes nothing.
+-- `writer::write` meets its contract: the tests that led to each `return` pick the case of the
+-- definition. Assumes nothing.
 use native.Mathlib.Omega.{arith}
 use mathlib.Core.Path.{◌≡◌, ap, ◌∙◌}
 use mathlib.Core.Bool.{true}

@@ -1,5 +1,6 @@
--- `index::Entries::scan` meets its contract. The invariant: from here on, with what is kept so far, the outcome is that of the whole input; the sums so far
--- and those of what is left are the whole's. Assumes nothing.
+-- `index::Entries::scan` meets its contract. The invariant: from here on, with what is kept so far,
+-- the outcome is that of the whole input; the sums so far and those of what is left are the
+-- whole's. Assumes nothing.
 use Prim.Native.Nat.{◌+◌, ◌-◌, ◌≤◌, ◌<◌}
 use mathlib.Core.Path.{◌≡◌, refl, ap, sym, ◌∙◌, subst}
 use native.Mathlib.Omega.{arith}

@@ -1,5 +1,6 @@
--- `index::Entries::scan` meets its contract. The invariant: from here on, with what is kept so far, the outcome is that of the whole input; the sums so far
--- and those of what is left are the whole's. Assumes nothing.
+-- `index::Entries::scan` meets its contract. The invariant: from here on, with what is kept so far,
+-- the outcome is that of the whole input; the sums so far and those of what is left are the
+-- whole's. Assumes nothing.
 use mathlib.Core.Path.{◌≡◌}
 use Rattle.index.specs.Index.{index_from}
 use Rattle.index.specs.Answer.{found_of}

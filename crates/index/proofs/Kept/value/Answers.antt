@@ -1,4 +1,5 @@
--- `index::Kept::value` meets its contract: the tests that led to each `return` pick the case. Assumes nothing.
+-- `index::Kept::value` meets its contract: the tests that led to each `return` pick the case.
+-- Assumes nothing.
 use Prim.Native.Nat.{◌+◌, ◌-◌, ◌≤◌}
 use lib.ListN.{length, get_or, take, drop}
 use mathlib.Core.Path.{◌≡◌, ap, sym, ◌∙◌}

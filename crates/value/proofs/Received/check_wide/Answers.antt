@@ -1,4 +1,5 @@
--- `value::Received::check_wide` meets its contract: the kind tells the bounds of the length. Assumes nothing.
+-- `value::Received::check_wide` meets its contract: the kind tells the bounds of the length.
+-- Assumes nothing.
 use mathlib.Core.Path.{refl, ap, ◌∙◌}
 use mir.Val.{bool_byte}
 use Rattle.value.proofs.Checks.{wide}

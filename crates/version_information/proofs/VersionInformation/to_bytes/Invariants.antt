@@ -1,5 +1,5 @@
--- `version_information::VersionInformation::to_bytes` meets its contract. The invariant: the chosen version and the first `i` others are stored. Assumes
--- nothing.
+-- `version_information::VersionInformation::to_bytes` meets its contract. The invariant: the chosen
+-- version and the first `i` others are stored. Assumes nothing.
 use mathlib.Core.Path.{◌≡◌}
 use mathlib.Core.List.{◌∷◌}
 use lib.ListN.{take, replicate}

@@ -1,4 +1,5 @@
--- `writer::Draft::put_ordered` meets its contract. The invariant: the parameters at the first places of the order stand at the front. Assumes nothing.
+-- `writer::Draft::put_ordered` meets its contract. The invariant: the parameters at the first
+-- places of the order stand at the front. Assumes nothing.
 use borrow.Author.Rules.{rules}
 use native.Mathlib.Omega.{arith}
 use mathlib.Core.Path.{◌≡◌, refl, sym, ◌∙◌}

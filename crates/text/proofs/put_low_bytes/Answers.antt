@@ -1,4 +1,4 @@
--- `put_bytes` meets its contract. Assumes nothing.
+-- `put_low_bytes` meets its contract. Assumes nothing.
 use Prim.Native.Nat.{◌/◌, ◌%◌}
 use mathlib.Core.Path.{ap, ◌∙◌}
 use mathlib.Core.Path.{◌≡◌}
@@ -6,7 +6,7 @@ use Rattle.std.specs.Int.Bits.{bit_and}
 use Rattle.std.proofs.lemmas.Nat.{and_mask}
 use native.Mathlib.Omega.{arith}
 use Rattle.text.proofs.Decimals.{stored_out, byte_before, less}
-use Rattle.text.proofs.put_bytes.Goals as goal
+use Rattle.text.proofs.put_low_bytes.Goals as goal
 
 pub loop-k-preserved : goal.loop-k-preserved
 loop-k-preserved c =

@@ -1,4 +1,4 @@
--- `image::put_bytes` meets its contract. Assumes nothing.
+-- `image::put_array` meets its contract. Assumes nothing.
 use Prim.Native.Nat.{◌+◌, ◌-◌}
 use native.Mathlib.Omega.{arith}
 use borrow.Author.Rules.{rules}
@@ -7,7 +7,7 @@ use mathlib.Core.List.{append_assoc}
 use lib.ListN.{length, take, drop}
 use Rattle.std.proofs.lemmas.Slice.{put_mid-paste}
 use Rattle.std.proofs.lemmas.List.Edits.{paste_all, sets-eq}
-use Rattle.image.proofs.put_bytes.Goals as goal
+use Rattle.image.proofs.put_array.Goals as goal
 
 pub returns : goal.returns
 returns g c =
