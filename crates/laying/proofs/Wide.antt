@@ -24,7 +24,7 @@ use Rattle.varint.specs.Number.{bound, form, tag_of, number_bytes}
 use Rattle.varint.proofs.Bytes.{four, tag_le, length_form}
 use Rattle.catalogue.specs.Catalogue.{parameter}
 use Rattle.words.specs.Words.{zeros, bytes_of}
-use Rattle.words.proofs.Laws.{joined, zeros_are, zeros_replicate, zeros_append}
+use Rattle.words.proofs.Laws.{or_beside, zeros_are, zeros_replicate, zeros_append}
 use Rattle.wire.specs.Wire.{put, due_value, due_number}
 use Rattle.laying.specs.Laying.{lay, number_rest, laid_number, laid_field}
 use Rattle.wire.proofs.Stored.{lent, back, whole, length_front, front_nil, front_two}
@@ -47,16 +47,16 @@ unfolding form
 wide_bytes k x h = four k (λ k. x < 64 * 256 ^ (2 ^ k - 1) → bytes_of 8 (shifted k x) ≡ form k x ++ replicate (8 - 2 ^ k) 0) h none one two three
   where
     none : x < 64 → bytes_of 8 (shifted 0 x) ≡ form 0 x ++ replicate 7 0
-    none l = rw (joined 6 0 x (omega arith) l) (eight (omega arith) (omega arith) (omega arith) (omega arith) (omega arith) (omega arith) (omega arith) (omega arith))
+    none l = rw (or_beside 6 0 x (omega arith) l) (eight (omega arith) (omega arith) (omega arith) (omega arith) (omega arith) (omega arith) (omega arith) (omega arith))
 
     one : x < 64 * 256 → bytes_of 8 (shifted 1 x) ≡ form 1 x ++ replicate 6 0
-    one l = rw (joined 14 1 x (omega arith) (omega arith)) (eight (omega arith) (omega arith) (omega arith) (omega arith) (omega arith) (omega arith) (omega arith) (omega arith))
+    one l = rw (or_beside 14 1 x (omega arith) (omega arith)) (eight (omega arith) (omega arith) (omega arith) (omega arith) (omega arith) (omega arith) (omega arith) (omega arith))
 
     two : x < 64 * 256 ^ 3 → bytes_of 8 (shifted 2 x) ≡ form 2 x ++ replicate 4 0
-    two l = rw (joined 30 2 x (omega arith) (omega arith)) (eight (omega arith) (omega arith) (omega arith) (omega arith) (omega arith) (omega arith) (omega arith) (omega arith))
+    two l = rw (or_beside 30 2 x (omega arith) (omega arith)) (eight (omega arith) (omega arith) (omega arith) (omega arith) (omega arith) (omega arith) (omega arith) (omega arith))
 
     three : x < 64 * 256 ^ 7 → bytes_of 8 (shifted 3 x) ≡ form 3 x ++ replicate 0 0
-    three l = rw (joined 62 3 x (omega arith) (omega arith)) (eight (omega arith) (omega arith) (omega arith) (omega arith) (omega arith) (omega arith) (omega arith) (omega arith))
+    three l = rw (or_beside 62 3 x (omega arith) (omega arith)) (eight (omega arith) (omega arith) (omega arith) (omega arith) (omega arith) (omega arith) (omega arith) (omega arith))
 
 -- the eight bytes of a number
 pub eight_bytes : (y : ℕ) → y / 72057594037927936 % 256 ∷ y / 281474976710656 % 256 ∷ y / 1099511627776 % 256 ∷ y / 4294967296 % 256 ∷ y / 16777216 % 256 ∷ y / 65536 % 256 ∷ y / 256 % 256 ∷ y % 256 ∷ [] ≡ bytes_of 8 y
