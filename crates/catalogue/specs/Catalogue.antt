@@ -1,7 +1,7 @@
 -- The catalogue of transport parameters (RFC 9000 section 18.2, RFC 9221 section 3, RFC 9287
 -- section 3, RFC 9368 section 3, draft-ietf-quic-ack-frequency-08 section 3): identifier, kind and
 -- default by place, which values fit a kind, and a parameter on the wire (RFC 9000 section 18).
-use Rattle.std.specs.Prelude.{ℕ, suc, ◌+◌, ◌%◌, ◌^◌, List, [], ◌∷◌, ◌++◌, Bool, false, length, get_or, take, replicate, ltb, leb, eqb}
+use Rattle.std.specs.Prelude.{ℕ, suc, ◌+◌, ◌%◌, ◌^◌, List, [], ◌∷◌, ◌++◌, Bool, false, codes, length, get_or, take, replicate, ltb, leb, eqb}
 use Rattle.std.proofs.Math.Option.{Option, none, some}
 use Rattle.refusal.specs.Outcome.{Outcome, accepted, refused, pick, all}
 use Rattle.varint.specs.Number.{bound, read_number, number_bytes}
@@ -10,6 +10,33 @@ use Rattle.words.specs.Words.{zeros}
 
 abbrev pub places : ℕ
 places = 22
+
+-- the name of each place, as in the documents and in quinn's source
+unfoldable pub names : List (List ℕ)
+names =
+    codes "max_idle_timeout"
+    ∷ codes "max_udp_payload_size"
+    ∷ codes "initial_max_data"
+    ∷ codes "initial_max_stream_data_bidi_local"
+    ∷ codes "initial_max_stream_data_bidi_remote"
+    ∷ codes "initial_max_stream_data_uni"
+    ∷ codes "initial_max_streams_bidi"
+    ∷ codes "initial_max_streams_uni"
+    ∷ codes "ack_delay_exponent"
+    ∷ codes "max_ack_delay"
+    ∷ codes "active_connection_id_limit"
+    ∷ codes "reserved"
+    ∷ codes "stateless_reset_token"
+    ∷ codes "disable_active_migration"
+    ∷ codes "max_datagram_frame_size"
+    ∷ codes "preferred_address"
+    ∷ codes "original_dst_cid"
+    ∷ codes "initial_src_cid"
+    ∷ codes "retry_src_cid"
+    ∷ codes "grease_quic_bit"
+    ∷ codes "min_ack_delay"
+    ∷ codes "version_information"
+    ∷ []
 
 -- the identifier of each place. Place 11 is the reserved parameter's, which has none of its own: no
 -- number on the wire is 2 ^ 62

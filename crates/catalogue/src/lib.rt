@@ -2,8 +2,8 @@
 // names, identifiers and defaults; and the place of an identifier.
 #![tactic(auto)]
 
-ghost use Rattle.std.specs.Prelude.{◌≡◌};
-ghost use Rattle.catalogue.specs.Catalogue.{ids, defaults, place_of};
+ghost use Rattle.std.specs.Prelude.{◌≡◌, map};
+ghost use Rattle.catalogue.specs.Catalogue.{names, ids, defaults, place_of};
 
 /// How many places the catalogue has; the first of them hold plain numbers.
 pub const PLACES: usize = 22;
@@ -152,7 +152,15 @@ pub const VERSION_INFORMATION_ID: u64 = IDS[VERSION_INFORMATION];
 /// The defaults of the plain numbers.
 pub const DEFAULTS: [u64; NUMBERS] = [0, 65527, 0, 0, 0, 0, 0, 0, 3, 25, 2];
 
-/// These say that two of the tables are those of the definitions; nothing calls them.
+/// The names by place: here and below, that a table is the definition's.
+#[tactic(auto, unfolding(crate::specs::Catalogue::names))]
+pub fn names() -> [&'static str; PLACES]
+    ensures { map (λ name. name.now) result ≡ names }
+{
+    NAMES
+}
+
+/// The identifiers by place.
 #[tactic(auto, unfolding(crate::specs::Catalogue::ids))]
 pub fn identifiers() -> [u64; PLACES]
     ensures { result ≡ ids }
@@ -160,6 +168,7 @@ pub fn identifiers() -> [u64; PLACES]
     IDS
 }
 
+/// The defaults of places 0 to 10.
 #[tactic(auto, unfolding(crate::specs::Catalogue::defaults))]
 pub fn default_numbers() -> [u64; NUMBERS]
     ensures { result ≡ defaults }

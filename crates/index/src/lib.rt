@@ -147,15 +147,22 @@ impl Entries {
 }
 
 /// What is kept of an extension in which no parameter is at fault, and the extension: the values
-/// lie within it, and fit.
+/// lie within it, and fit. Only `index` makes one.
 #[derive(Clone, Copy)]
 pub struct Kept<'a> {
-    pub entries: Entries,
-    pub src: &'a [u8],
+    entries: Entries,
+    src: &'a [u8],
     ghost sound: { Sound src.now (found_of entries) },
 }
 
 impl<'a> Kept<'a> {
+    /// What was found: the marks, and by place what is kept.
+    pub fn entries(&self) -> &Entries
+        ensures { result.now ≡ self.now.entries }
+    {
+        &self.entries
+    }
+
     /// The value received at a place; none at one that holds a number.
     pub fn value(&self, place: usize) -> Option<&'a [u8]>
         ensures { option_of (option_copied result)

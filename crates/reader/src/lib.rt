@@ -117,7 +117,7 @@ fn address_in(v: Option<&[u8]>) -> PreferredAddress
 fn record_of(kept: &Kept) -> TransportParameters
     ensures { result ≡ record_kept kept.now.src.now (found_of kept.now.entries) }
 {
-    let entries = &kept.entries;
+    let entries = kept.entries();
     TransportParameters {
         numbers: entries.numbers(),
         disable_active_migration: entries.is_met(DISABLE_ACTIVE_MIGRATION),

@@ -30,7 +30,7 @@ fn put_at(place: usize, kept: &Kept, out: &mut [u8]) -> usize
     ensures { (result, out.new)
         ≡ put (piece_for (id_at place) kept.now.src.now (found_of kept.now.entries) place) out.old }
 {
-    let entries = &kept.entries;
+    let entries = kept.entries();
     if !entries.is_met(place) {
         return 0;
     }
@@ -76,7 +76,7 @@ fn put_all(kept: &Kept, out: &mut [u8]) -> usize
     ensures { (result, out.new, [])
         ≡ laid (pieces kept.now.src.now (found_of kept.now.entries)) 1 0 out.old [] }
 {
-    let start = put_numbers(&kept.entries, out);
+    let start = put_numbers(kept.entries(), out);
     put_others(kept, start, out)
 }
 

@@ -140,7 +140,7 @@ loop-at-preserved g c =
 pub returns : goal.returns
 returns g c =
     let l = c.loop-at in
-    let h = rw l.invariant.0 at c.in-None.ensures.steps.1 in
+    let h = rw l.invariant.0 at c.in-None.ensures.steps.1.0 in
     record {
       found = sym (stop c.args.src.now (found_of l.self) l.at-iterator.at h) ∙ l.invariant.1;
       sums = done c.args.src.now l.at-iterator.at l.sums h l.invariant.2;
