@@ -37,7 +37,7 @@ unfoldable pub presence_rules : Bool → Bool → Bool → Bool → Bool → ℕ
 presence_rules server original address retry token id_len =
     all (not (server && (original || (address || (retry || token)))) ∷ not (address && eqb id_len 0) ∷ [])
 
--- of version information (RFC 9368 section 3): no version is 0; and for a server the chosen one is
+-- of version information (RFC 9368 section 4): no version is 0; and for a server the chosen one is
 -- available
 unfoldable pub version_rules : Bool → VersionInformation → Bool
 version_rules server i =

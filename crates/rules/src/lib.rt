@@ -1,4 +1,4 @@
-// The value rules (RFC 9000 sections 4.6 and 18.2, RFC 9368 section 3,
+// The value rules (RFC 9000 sections 4.6 and 18.2, RFC 9368 section 4,
 // draft-ietf-quic-ack-frequency-08 section 3), and checking a record for the side that reads it.
 #![tactic(auto)]
 
