@@ -4,7 +4,7 @@ use std::{cell::Cell, time::Instant};
 
 use crate::{
     answer::{Answer, Case, Op},
-    due::{self, By, REQUESTS},
+    due::{self, By, PARTINGS},
     image::{self, RECORD, Versions},
     inputs::{self, Dice, EDGES},
     kinds::KINDS,
@@ -20,9 +20,9 @@ const SHOWN: u64 = 5;
 #[derive(Default, Clone, Copy)]
 struct Tally {
     cases: u64,
-    /// of these, the ones that quinn answered, and those on which a request parts from it; the others are held to the documents
+    /// of these, the ones that quinn answered, and those on which the product may part from it; the others are held to docs/SCOPE.md
     quinn: u64,
-    requests: u64,
+    skipped: u64,
     accepted: u64,
     differences: u64,
 }
@@ -31,16 +31,16 @@ impl Tally {
     fn add(&mut self, t: &Tally) {
         self.cases += t.cases;
         self.quinn += t.quinn;
-        self.requests += t.requests;
+        self.skipped += t.skipped;
         self.accepted += t.accepted;
         self.differences += t.differences;
     }
 
     fn line(&self, name: &str) {
-        let documents = self.cases - self.quinn - self.requests;
+        let scope = self.cases - self.quinn - self.skipped;
         println!(
-            "{name:<16}{:>12}{:>14}{documents:>14}{:>13}{:>12}{:>13}",
-            self.cases, self.quinn, self.requests, self.accepted, self.differences
+            "{name:<16}{:>12}{:>14}{scope:>14}{:>13}{:>12}{:>13}",
+            self.cases, self.quinn, self.skipped, self.accepted, self.differences
         );
     }
 }
@@ -78,7 +78,7 @@ fn plant(c: &Case, nth: u64, got: &mut library::Called) {
         Op::Read => {}
         Op::Rearranged | Op::TidyRearranged if !c.y.starts_with(inputs::parameters(c.x)[0].bytes) => *got = library::refused(11),
         Op::Rearranged | Op::TidyRearranged => {}
-        Op::Resume if matches!(due::by(c), By::Request05) => *got = library::refused(8),
+        Op::Resume if matches!(due::by(c), By::AbsentSize) => *got = library::refused(8),
         Op::Resume => {}
         Op::Authenticate if c.number & 255 != 0 && c.x[109..130] != *c.z => *got = library::refused(14),
         Op::Authenticate => {}
@@ -143,7 +143,7 @@ const PARTS: [(&str, fn(&mut Suite)); 32] = [
 /// The refusals that quinn does not tell apart: its Malformed, and its one error for connection IDs.
 const TOLD_APART: [(u8, &str); 5] = [KINDS[0], KINDS[1], KINDS[2], (13, "13: ID absent"), (14, "14: mismatch")];
 
-/// How many inputs of a request were skipped in the run against quinn, and to how many of them quinn gives another answer than the one due. Of those with
+/// How many inputs of a kind were skipped in the run against quinn, and to how many of them quinn gives another answer than the one due. Of those with
 /// version information that is not asked.
 #[derive(Default, Clone, Copy)]
 struct Skipped {
@@ -180,11 +180,11 @@ impl Shuffles {
     }
 }
 
-/// What a run counts: by operation, by request, by operation and refusal that quinn does not tell apart, and by part of the run.
+/// What a run counts: by operation, by what is skipped, by operation and refusal that quinn does not tell apart, and by part of the run.
 #[derive(Default)]
 struct Counts {
     tallies: [Tally; Op::ALL.len()],
-    skipped: [Skipped; REQUESTS.len()],
+    skipped: [Skipped; PARTINGS.len()],
     told_apart: [[u64; TOLD_APART.len()]; Op::ALL.len()],
     shuffles: [Shuffles; PARTS.len()],
 }
@@ -223,15 +223,15 @@ impl Counts {
     /// Counts who said what is due.
     fn count_by(&mut self, c: &Case, by: By, want: &Answer) {
         let t = &mut self.tallies[c.op as usize];
-        if let Some(i) = REQUESTS.iter().position(|(request, _)| *request == by.request()) {
-            t.requests += 1;
+        if let Some(i) = PARTINGS.iter().position(|(mark, _)| *mark == by.mark()) {
+            t.skipped += 1;
             self.skipped[i].all += 1;
-            self.skipped[i].parted += (!matches!(by, By::Request09) && due::is_parted(c, want)) as u64;
+            self.skipped[i].parted += (!matches!(by, By::Versions) && due::is_parted(c, want)) as u64;
         }
         if let By::Quinn = by {
             t.quinn += 1;
             if c.op == Op::Resume {
-                assert!(due::by_request_05(c) == *want, "to every pair that is put to quinn request 05 gives quinn's answer");
+                assert!(due::by_sizes(c) == *want, "to every pair that is put to quinn, sizes of 0 for absent ones give quinn's answer");
             }
         }
     }
@@ -239,7 +239,7 @@ impl Counts {
     fn print(&self) {
         println!(
             "{:<16}{:>12}{:>14}{:>14}{:>13}{:>12}{:>13}",
-            "operation", "cases", "put to quinn", "by documents", "by requests", "accepted", "differences"
+            "operation", "cases", "put to quinn", "by scope", "skipped", "accepted", "differences"
         );
         let mut sum = Tally::default();
         for ((_, name), t) in Op::ALL.iter().zip(&self.tallies) {
@@ -248,9 +248,9 @@ impl Counts {
         }
         sum.line("all");
         println!("{:<60}{:>9}{:>25}", "skipped in the run against quinn", "cases", "quinn answers otherwise");
-        for ((request, inputs), n) in REQUESTS.iter().zip(&self.skipped) {
-            let parted = if *request == 9 { "not asked".to_owned() } else { n.parted.to_string() };
-            println!("{:<60}{:>9}{parted:>25}", format!("{request:02}: {inputs}"), n.all);
+        for ((mark, inputs), n) in PARTINGS.iter().zip(&self.skipped) {
+            let parted = if *mark == By::Versions.mark() { "not asked".to_owned() } else { n.parted.to_string() };
+            println!("{inputs:<60}{:>9}{parted:>25}", n.all);
         }
         self.print_told_apart();
         println!("{:<16}{:>12}{:>18}{:>26}", "rearranged of", "orders", "with unknown ones", "of these, in longer forms");

@@ -1,4 +1,4 @@
-//! The answer that is due to a case: quinn's; where quinn has none, or parts from the product, the one that document 01 or 02 gives. Of an extension that
+//! The answer that is due to a case: quinn's; where quinn has none, or parts from the product, the one that docs/SCOPE.md gives. Of an extension that
 //! quinn calls Malformed the kind is due, and of connection IDs that it refuses whether one is absent; of what it reads also where the bytes go. What has version
 //! information is put to quinn without it.
 
@@ -17,43 +17,43 @@ use crate::{
 #[derive(Clone, Copy)]
 pub enum By {
     Quinn,
-    /// The order test and the first fault of an order have no counterpart in quinn, nor have calls on which the Rust panics or that its types
-    /// rule out. All but the first fault is document 01's.
-    Documents,
-    /// Request 02, where quinn is not asked: the extension has a second grease_quic_bit or min_ack_delay, which starts here.
-    Request02(usize),
-    /// Request 05, where quinn is not asked: the cached datagram size is 0 and the new one absent.
-    Request05,
-    /// Request 09, where quinn is asked of the rest: the extension, or a record, has version information.
-    Request09,
+    /// docs/SCOPE.md: the order test and the first fault of an order have no counterpart in quinn, nor have calls on which the Rust panics or that
+    /// its types rule out.
+    Scope,
+    /// quinn is not asked: the extension has a second grease_quic_bit or min_ack_delay, which starts here.
+    SecondCopy(usize),
+    /// quinn is not asked: the cached datagram size is 0 and the new one absent.
+    AbsentSize,
+    /// quinn is asked of the rest: the extension, or a record, has version information.
+    Versions,
 }
 
-/// The requests that part product and quinn, and the inputs on which quinn is not asked.
-pub const REQUESTS: [(u8, &str); 3] = [
+/// Where product and quinn may part: the mark that such a case has in the recorded list, and the inputs on which quinn is not asked.
+pub const PARTINGS: [(u8, &str); 3] = [
     (2, "extensions that repeat grease_quic_bit or min_ack_delay"),
     (5, "resumption from a datagram size of 0 to an absent one"),
     (9, "extensions and records with version information"),
 ];
 
 impl By {
-    /// The request that gives the answer here, quinn not being asked of the case as it is; 0 if none does.
-    pub fn request(self) -> u8 {
+    /// The mark of a case of which quinn is not asked as it is; else 0.
+    pub fn mark(self) -> u8 {
         match self {
-            By::Quinn | By::Documents => 0,
-            By::Request02(_) => 2,
-            By::Request05 => 5,
-            By::Request09 => 9,
+            By::Quinn | By::Scope => 0,
+            By::SecondCopy(_) => 2,
+            By::AbsentSize => 5,
+            By::Versions => 9,
         }
     }
 }
 
 pub fn by(c: &Case) -> By {
     match c.op {
-        _ if c.declined != 0 => By::Documents,
-        Op::CheckOrder | Op::OrderFault => By::Documents,
-        _ if has_versions(c) => By::Request09,
-        op if op.takes_extension() => second_copy(c.x).map_or(By::Quinn, By::Request02),
-        Op::Resume if size(c.x).is_none() && size(c.y) == Some(VarInt(0)) => By::Request05,
+        _ if c.declined != 0 => By::Scope,
+        Op::CheckOrder | Op::OrderFault => By::Scope,
+        _ if has_versions(c) => By::Versions,
+        op if op.takes_extension() => second_copy(c.x).map_or(By::Quinn, By::SecondCopy),
+        Op::Resume if size(c.x).is_none() && size(c.y) == Some(VarInt(0)) => By::AbsentSize,
         _ => By::Quinn,
     }
 }
@@ -93,13 +93,13 @@ fn check_order(order: &[u8]) -> u8 {
     if image::is_permutation(order) { 0 } else { 6 }
 }
 
-/// Request 04: the position of the first entry that is out of range or repeats an earlier one; the order's length if entries are only missing.
+/// The position of the first entry that is out of range or repeats an earlier one; the order's length if entries are only missing.
 fn order_fault(order: &[u8]) -> Option<usize> {
     let is_wrong = |k: &usize| order[*k] > 21 || order[..*k].contains(&order[*k]);
     (0..order.len()).find(is_wrong).or((order.len() < PLACES).then_some(order.len()))
 }
 
-fn by_documents(c: &Case) -> Answer {
+fn by_scope(c: &Case) -> Answer {
     match c.op {
         Op::CheckOrder => Answer::refused(check_order(c.x)),
         Op::OrderFault => order_fault(c.x).map_or(Answer::refused(0), |k| Answer { code: 6, ..Answer::number(k as u64) }),
@@ -107,15 +107,15 @@ fn by_documents(c: &Case) -> Answer {
     }
 }
 
-/// Request 02: a second copy is malformed, whatever its value and whatever follows, unless a parameter before it is at fault. So is an identifier that
+/// A second copy is malformed, whatever its value and whatever follows, unless a parameter before it is at fault. So is an identifier that
 /// cannot be read, which quinn finds where the second copy starts.
-fn by_request_02(c: &Case, start: usize) -> Answer {
+fn by_second_copy(c: &Case, start: usize) -> Answer {
     rust::answer(&Case { x: &[&c.x[..start], &[0x40]].concat(), ..*c })
 }
 
-/// Request 05: an absent size counts as 0, so that each record stands for the one which has that size. Between two sizes that are there quinn
+/// An absent size counts as 0, so that each record stands for the one which has that size. Between two sizes that are there quinn
 /// and the product do not part.
-pub fn by_request_05(c: &Case) -> Answer {
+pub fn by_sizes(c: &Case) -> Answer {
     let with_size = |image: &[u8]| {
         let mut p = image::to_record(image);
         p.max_datagram_frame_size = p.max_datagram_frame_size.or(Some(VarInt(0)));
@@ -124,8 +124,8 @@ pub fn by_request_05(c: &Case) -> Answer {
     rust::answer(&Case { x: &with_size(c.x), y: &with_size(c.y), ..*c })
 }
 
-/// Request 09: the rest is put to quinn, as it would be if there were no version information, which is then added to what is accepted.
-fn by_request_09(c: &Case) -> Answer {
+/// The rest is put to quinn, as it would be if there were no version information, which is then added to what is accepted.
+fn by_versions(c: &Case) -> Answer {
     let (x, value) = if c.op.takes_extension() {
         versions::struck(c.x).expect("it names version information")
     } else {
@@ -176,7 +176,7 @@ fn before_versions(image: &[u8], written: &[u8]) -> usize {
     parameters.iter().filter(|p| before.contains(&image::place(p.id))).map(|p| p.bytes.len()).sum()
 }
 
-/// Request 06: what quinn calls Malformed is one of three kinds, and nothing else is.
+/// What quinn calls Malformed is one of three kinds, and nothing else is.
 fn in_kinds(c: &Case, a: Answer) -> Answer {
     if !c.op.takes_extension() {
         return a;
@@ -186,7 +186,7 @@ fn in_kinds(c: &Case, a: Answer) -> Answer {
     kind.map_or(a, Answer::refused)
 }
 
-/// Request 07: what quinn refuses is 13 if an ID that is needed is absent, else 14: both need initial_src_cid, and a client original_dst_cid and, after a
+/// What quinn refuses is 13 if an ID that is needed is absent, else 14: both need initial_src_cid, and a client original_dst_cid and, after a
 /// Retry, retry_src_cid.
 fn in_stages(c: &Case, a: Answer) -> Answer {
     if c.op != Op::Authenticate || c.declined != 0 {
@@ -200,7 +200,7 @@ fn in_stages(c: &Case, a: Answer) -> Answer {
     if is_absent { Answer::refused(13) } else { a }
 }
 
-/// Request 08: behind a number that quinn reads stands how many bytes its shortest form would have saved. Of an extension that it accepts all five counts
+/// Behind a number that quinn reads stands how many bytes its shortest form would have saved. Of an extension that it accepts all five counts
 /// are due, the first being how many bytes it writes; the four that are bytes make the length.
 fn in_counts(c: &Case, a: Answer) -> Answer {
     match c.op {
@@ -227,10 +227,10 @@ fn in_room(c: &Case, a: Answer) -> Answer {
 fn answer_of(by: By, c: &Case) -> Answer {
     match by {
         By::Quinn => rust::answer(c),
-        By::Documents => by_documents(c),
-        By::Request02(start) => by_request_02(c, start),
-        By::Request05 => by_request_05(c),
-        By::Request09 => by_request_09(c),
+        By::Scope => by_scope(c),
+        By::SecondCopy(start) => by_second_copy(c, start),
+        By::AbsentSize => by_sizes(c),
+        By::Versions => by_versions(c),
     }
 }
 

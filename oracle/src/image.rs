@@ -37,7 +37,7 @@ pub fn place(id: u64) -> u8 {
 
 pub const CATALOGUE_ORDER: [u8; PLACES] = [0, 1, 2, 3, 4, 5, 6, 7, 8, 9, 10, 11, 12, 13, 14, 15, 16, 17, 18, 19, 20, 21];
 
-/// Documents 01 and 02: an order is a permutation of 0 to 21.
+/// An order is a permutation of 0 to 21 (docs/SCOPE.md, Orders).
 pub fn is_permutation(order: &[u8]) -> bool {
     let mut places = order.to_vec();
     places.sort();

@@ -1,4 +1,4 @@
-//! Request 06: which kind of malformed an extension is. quinn tells no kinds, so this is a plain reading of documents 01 and 02.
+//! Which kind of malformed an extension is: cut off, a second copy, a misfit. quinn tells no kinds, so this is a plain reading of docs/SCOPE.md, Reading.
 
 use crate::{coding::BufExt, inputs::KNOWN, versions};
 

@@ -6,16 +6,16 @@
 //! | at | head |
 //! |---|---|
 //! | 0 | operation, by its place in `Op` |
-//! | 1 | refusal due, or 0; 10, 11 and 12 of reading, tidying and reports are quinn's Malformed, told apart by request 06; 13 and 14 its one refusal of connection IDs, by 07 |
+//! | 1 | refusal due, or 0; 10, 11 and 12 of reading, tidying and reports are quinn's Malformed, told apart; so are 13 and 14, its one refusal of connection IDs |
 //! | 2, 4, 6, 8, 10 | where x, y, z, w and the bytes due end, counted from the head's end |
 //! | 12 | length of the output |
-//! | 14 | the request of document 02 that gives the answer, quinn not being asked of the case as it is; else 0 |
+//! | 14 | a mark if quinn is not asked of the case as it is (`PARTINGS` of `due.rs`): 2 a second copy, 5 an absent datagram size, 9 version information; else 0 |
 //! | 15 | the refusal again if the Rust has no answer, else 0 |
 //! | 16 | number of the case (eight bytes) |
 //! | 24 | number due (eight bytes) |
 //!
 //! What the fields are for each operation is said at `Case` and `Answer`. Of what number_read and report store, the value and the tidied length are
-//! quinn's, the rest is request 08's.
+//! quinn's, the rest is the product's own.
 
 use std::{
     collections::HashSet,
@@ -241,7 +241,7 @@ fn entry(c: &Case) -> Vec<u8> {
         out.extend((end as u16).to_be_bytes());
     }
     out.extend((c.room as u16).to_be_bytes());
-    out.extend([by.request(), c.declined]);
+    out.extend([by.mark(), c.declined]);
     out.extend(c.number.to_be_bytes());
     out.extend(a.number.to_be_bytes());
     out.extend(parts.concat());
@@ -294,7 +294,7 @@ pub fn record() {
         (61, |s| s.version_records(100)),
     ];
     let (mut entries, mut bytes) = (0, 0);
-    let mut requested = due::REQUESTS.map(|(request, _)| (request, 0));
+    let mut marked = due::PARTINGS.map(|(mark, _)| (mark, 0));
     let mut reported = HashSet::new();
     for (step, part) in parts {
         let mut turn = 0;
@@ -303,7 +303,7 @@ pub fn record() {
             stdout().write_all(&e).unwrap();
             entries += 1;
             bytes += e.len();
-            requested.iter_mut().for_each(|(request, n)| *n += (e[14] == *request) as usize);
+            marked.iter_mut().for_each(|(mark, n)| *n += (e[14] == *mark) as usize);
         };
         let mut sink = |c: &Case| {
             // what is tidied is reported once, and nothing else
@@ -322,7 +322,7 @@ pub fn record() {
         };
         part(&mut Suite { d: Dice(SEED), shuffles: Dice(!SEED), sink: &mut sink });
     }
-    eprintln!("{entries} cases, {bytes} bytes; of each request that parts product and quinn: {requested:?}");
+    eprintln!("{entries} cases, {bytes} bytes; by mark: {marked:?}");
 }
 
 /// Takes every case of a recorded list again: the answer due and the library's must both be what was recorded.
@@ -353,7 +353,7 @@ pub fn replay() {
         library += !library::call(&c).is(&recorded) as u64;
         at += 32 + ends[5];
     }
-    println!("{cases} recorded cases: quinn (or document 01 or 02) differs in {due}, the library in {library}");
+    println!("{cases} recorded cases: quinn (or docs/SCOPE.md) differs in {due}, the library in {library}");
     if due + library > 0 {
         std::process::exit(1);
     }

@@ -48,12 +48,12 @@ pub fn quiet_panics() {
     }));
 }
 
-/// The answer; or the refusal that document 01 puts in the place of a panic.
+/// The answer; or the refusal that stands in the place of a panic (docs/SCOPE.md, Refusals).
 fn unless_it_panics(refusal: u8, answer: impl FnOnce() -> Answer + UnwindSafe) -> Answer {
     catch_unwind(answer).unwrap_or_else(|_| Answer::refused(refusal))
 }
 
-/// Request 09: quinn is asked of no extension and no record with version information.
+/// quinn is asked of no extension and no record with version information.
 fn read(number: u64, src: &[u8]) -> Result<TransportParameters, Error> {
     assert!(versions::struck(src).is_none());
     TransportParameters::read(side(number), &mut &src[..])

@@ -443,7 +443,7 @@ impl Suite<'_> {
         }
     }
 
-    /// The worked examples of document 01 and the inputs that docs/DIFFERENCES.md shows.
+    /// The worked examples (crates/examples) and the inputs that docs/DIFFERENCES.md shows.
     pub fn shown(&mut self) {
         let address = |families: u8, id_len: u8, more: &str| {
             let id = "aa".repeat(id_len as usize);
@@ -470,7 +470,7 @@ impl Suite<'_> {
             "c0000000ff04de1b04800061a8",
             "c0000000ff04de1b04800061a9",
             "6ab200010480007530",
-            // second copies: of grease_quic_bit and min_ack_delay, refused by request 02; of an unknown parameter, accepted
+            // second copies: of grease_quic_bit and min_ack_delay, refused; of an unknown parameter, accepted
             "6ab2006ab200",
             "c0000000ff04de1b0105c0000000ff04de1b0106",
             "c0000000ff04de1b0106c0000000ff04de1b0105",
