@@ -6,6 +6,9 @@
  *
  * A pointer and its length name a slice, and the pointer may be null if the length is 0. A pointer to a single number or struct is never null.
  * Inputs and outputs of one call do not overlap.
+ *
+ * The library is built for x86-64-v2 and runs on no older processor: SSE4.2 and popcnt are used
+ * without a test.
  */
 #ifndef YUTHPRAM_H
 #define YUTHPRAM_H
@@ -21,8 +24,11 @@ extern "C" {
  * function change. 1 stands for every header before this macro, the last of them with images of 303 bytes and orders of 21 places. */
 #define YUTHPRAM_INTERFACE_VERSION 2
 
-/* The refusals: name, number, meaning. MALFORMED, ILLEGAL_VALUE, CUT, MISFIT, SECOND_COPY, CID_ABSENT and CID_MISMATCH travel as
- * TRANSPORT_PARAMETER_ERROR (0x08), LIMIT_REDUCED as PROTOCOL_VIOLATION (0x0a). */
+/* The refusals: name, number, meaning. How one travels depends on what was read. 0x08 and 0x0a are
+ * codes of transport parameters: there MALFORMED, ILLEGAL_VALUE, CUT, MISFIT, SECOND_COPY,
+ * CID_ABSENT and CID_MISMATCH travel as TRANSPORT_PARAMETER_ERROR (0x08), LIMIT_REDUCED as
+ * PROTOCOL_VIOLATION (0x0a). Settings of HTTP/3 will have a mapping of their own (0x0106, 0x0109).
+ * 15 to 21, from INVALID_SETTING on, are given by nothing yet. */
 #define YUTHPRAM_REFUSALS(X) \
     X(MALFORMED, 1, "malformed connection ID") \
     X(ILLEGAL_VALUE, 2, "illegal value") \
@@ -30,14 +36,21 @@ extern "C" {
     X(VARINT_BOUNDS_EXCEEDED, 4, "a number of 2^62 or more") \
     X(BUFFER_TOO_SHORT, 5, "the output is shorter than the bytes due") \
     X(INVALID_ORDER, 6, "an order that is not a permutation of 0 to 21") \
-    X(ILL_FORMED, 7, "a record or connection ID that is not well formed, or no image") \
+    X(ILL_FORMED, 7, "what was handed in is not well formed: a record, connection ID or count of settings, or no image") \
     X(LIMIT_REDUCED, 8, "a remembered limit was reduced") \
     X(INVALID_DRAW, 9, "a drawn value out of range") \
-    X(CUT, 10, "cut off: an identifier or length that cannot be read, or a length beyond what is left") \
+    X(CUT, 10, "cut off: an identifier, a parameter's length or a setting's value that cannot be read, or a length beyond what is left") \
     X(MISFIT, 11, "a value that does not fit or fill its length, or an ID of over 20 bytes") \
     X(SECOND_COPY, 12, "a second copy of a known parameter") \
     X(CID_ABSENT, 13, "a connection ID that is needed is absent") \
-    X(CID_MISMATCH, 14, "a connection ID is not the one seen, or is that of a Retry and none was seen")
+    X(CID_MISMATCH, 14, "a connection ID is not the one seen, or is that of a Retry and none was seen") \
+    X(INVALID_SETTING, 15, "a setting of HTTP/3 that is not allowed, or one sent twice") \
+    X(INVALID_STREAM, 16, "a list of streams that cannot be started with, or a stream that is not listed") \
+    X(STREAM_LIMIT_EXCEEDED, 17, "the limit of the stream is passed") \
+    X(CONNECTION_LIMIT_EXCEEDED, 18, "the limit of the connection is passed") \
+    X(INVALID_FILE, 19, "a file that is none of remembered parameters, or another version asked for") \
+    X(INVALID_ROLE, 20, "no such role") \
+    X(INVALID_RANGE, 21, "a lowest value above the highest")
 
 enum {
     YUTHPRAM_OK = 0,

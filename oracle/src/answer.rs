@@ -1,7 +1,8 @@
 //! A case is one call, all in bytes and numbers; an answer is what came back. Both programs take the same cases.
 
-/// The operations. Those from `Check` on have no counterpart in the Rust, but for `Authenticate`: all but `CheckOrder` and `OrderFault` are held to what its
-/// operations give, and `Report` to what docs/SCOPE.md makes of it (Where the bytes go).
+/// The operations. Those from `Check` on have no counterpart in the Rust, but for `Authenticate`:
+/// all but `CheckOrder` and `OrderFault` are held to what its operations give, and `Report` to what
+/// docs/SCOPE.md makes of it (Where the bytes go).
 #[derive(Clone, Copy, PartialEq, Eq, Debug)]
 #[repr(u8)]
 pub enum Op {
@@ -28,9 +29,11 @@ pub enum Op {
     Length,
     /// takes an order of any length
     OrderFault,
-    /// takes a side, a record and the IDs that packets carried; quinn has one error, RFC 9000 section 7.3 tells an absence, 13, from a mismatch, 14
+    /// takes a side, a record and the IDs that packets carried; quinn has one error, RFC 9000
+    /// section 7.3 tells an absence, 13, from a mismatch, 14
     Authenticate,
-    /// the Rust reads, then writes, which gives the tidied length; of the other bytes docs/SCOPE.md says what they are; takes a side and an extension
+    /// the Rust reads, then writes, which gives the tidied length; of the other bytes docs/SCOPE.md
+    /// says what they are; takes a side and an extension
     Report,
     /// the Rust reads an extension that it accepts, the library the same whole parameters in another order
     Rearranged,
@@ -99,7 +102,8 @@ pub struct Case<'a> {
     pub w: &'a [u8],
     /// the length of the output
     pub room: usize,
-    /// 0; or the refusal that is due where the Rust has no answer: docs/SCOPE.md gives it, and the case is made to call for it
+    /// 0; or the refusal that is due where the Rust has no answer: docs/SCOPE.md gives it, and the
+    /// case is made to call for it
     pub declined: u8,
 }
 

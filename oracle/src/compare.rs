@@ -20,7 +20,8 @@ const SHOWN: u64 = 5;
 #[derive(Default, Clone, Copy)]
 struct Tally {
     cases: u64,
-    /// of these, the ones that quinn answered, and those on which the product may part from it; the others are held to docs/SCOPE.md
+    /// of these, the ones that quinn answered, and those on which the product may part from it; the
+    /// others are held to docs/SCOPE.md
     quinn: u64,
     skipped: u64,
     accepted: u64,
@@ -143,8 +144,8 @@ const PARTS: [(&str, fn(&mut Suite)); 32] = [
 /// The refusals that quinn does not tell apart: its Malformed, and its one error for connection IDs.
 const TOLD_APART: [(u8, &str); 5] = [KINDS[0], KINDS[1], KINDS[2], (13, "13: ID absent"), (14, "14: mismatch")];
 
-/// How many inputs of a kind were skipped in the run against quinn, and to how many of them quinn gives another answer than the one due. Of those with
-/// version information that is not asked.
+/// How many inputs of a kind were skipped in the run against quinn, and to how many of them quinn
+/// gives another answer than the one due. Of those with version information that is not asked.
 #[derive(Default, Clone, Copy)]
 struct Skipped {
     all: u64,
@@ -180,7 +181,8 @@ impl Shuffles {
     }
 }
 
-/// What a run counts: by operation, by what is skipped, by operation and refusal that quinn does not tell apart, and by part of the run.
+/// What a run counts: by operation, by what is skipped, by operation and refusal that quinn does
+/// not tell apart, and by part of the run.
 #[derive(Default)]
 struct Counts {
     tallies: [Tally; Op::ALL.len()],

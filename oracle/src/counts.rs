@@ -1,5 +1,6 @@
-//! Where the bytes of an extension go, and what is lost on a longer form than a number needs. quinn counts none of it, so this is a plain reading of
-//! docs/SCOPE.md that shares nothing with the library, and of quinn only how a number is decoded and how long its shortest form is.
+//! Where the bytes of an extension go, and what is lost on a longer form than a number needs. quinn
+//! counts none of it, so this is a plain reading of docs/SCOPE.md that shares nothing with the
+//! library, and of quinn only how a number is decoded and how long its shortest form is.
 
 use crate::{
     VarInt,

@@ -1,6 +1,7 @@
-//! The answer that is due to a case: quinn's; where quinn has none, or parts from the product, the one that docs/SCOPE.md gives. Of an extension that
-//! quinn calls Malformed the kind is due, and of connection IDs that it refuses whether one is absent; of what it reads also where the bytes go. What has version
-//! information is put to quinn without it.
+//! The answer that is due to a case: quinn's; where quinn has none, or parts from the product, the
+//! one that docs/SCOPE.md gives. Of an extension that quinn calls Malformed the kind is due, and of
+//! connection IDs that it refuses whether one is absent; of what it reads also where the bytes go.
+//! What has version information is put to quinn without it.
 
 use crate::{
     VarInt,
@@ -17,10 +18,11 @@ use crate::{
 #[derive(Clone, Copy)]
 pub enum By {
     Quinn,
-    /// docs/SCOPE.md: the order test and the first fault of an order have no counterpart in quinn, nor have calls on which the Rust panics or that
-    /// its types rule out.
+    /// docs/SCOPE.md: the order test and the first fault of an order have no counterpart in quinn,
+    /// nor have calls on which the Rust panics or that its types rule out.
     Scope,
-    /// quinn is not asked: the extension has a second grease_quic_bit or min_ack_delay, which starts here.
+    /// quinn is not asked: the extension has a second grease_quic_bit or min_ack_delay, which
+    /// starts here.
     SecondCopy(usize),
     /// quinn is not asked: the cached datagram size is 0 and the new one absent.
     AbsentSize,
@@ -28,7 +30,8 @@ pub enum By {
     Versions,
 }
 
-/// Where product and quinn may part: the mark that such a case has in the recorded list, and the inputs on which quinn is not asked.
+/// Where product and quinn may part: the mark that such a case has in the recorded list, and the
+/// inputs on which quinn is not asked.
 pub const PARTINGS: [(u8, &str); 3] = [
     (2, "extensions that repeat grease_quic_bit or min_ack_delay"),
     (5, "resumption from a datagram size of 0 to an absent one"),
@@ -93,7 +96,8 @@ fn check_order(order: &[u8]) -> u8 {
     if image::is_permutation(order) { 0 } else { 6 }
 }
 
-/// The position of the first entry that is out of range or repeats an earlier one; the order's length if entries are only missing.
+/// The position of the first entry that is out of range or repeats an earlier one; the order's
+/// length if entries are only missing.
 fn order_fault(order: &[u8]) -> Option<usize> {
     let is_wrong = |k: &usize| order[*k] > 21 || order[..*k].contains(&order[*k]);
     (0..order.len()).find(is_wrong).or((order.len() < PLACES).then_some(order.len()))
@@ -107,14 +111,15 @@ fn by_scope(c: &Case) -> Answer {
     }
 }
 
-/// A second copy is malformed, whatever its value and whatever follows, unless a parameter before it is at fault. So is an identifier that
-/// cannot be read, which quinn finds where the second copy starts.
+/// A second copy is malformed, whatever its value and whatever follows, unless a parameter before
+/// it is at fault. So is an identifier that cannot be read, which quinn finds where the second copy
+/// starts.
 fn by_second_copy(c: &Case, start: usize) -> Answer {
     rust::answer(&Case { x: &[&c.x[..start], &[0x40]].concat(), ..*c })
 }
 
-/// An absent size counts as 0, so that each record stands for the one which has that size. Between two sizes that are there quinn
-/// and the product do not part.
+/// An absent size counts as 0, so that each record stands for the one which has that size. Between
+/// two sizes that are there quinn and the product do not part.
 pub fn by_sizes(c: &Case) -> Answer {
     let with_size = |image: &[u8]| {
         let mut p = image::to_record(image);
@@ -124,7 +129,8 @@ pub fn by_sizes(c: &Case) -> Answer {
     rust::answer(&Case { x: &with_size(c.x), y: &with_size(c.y), ..*c })
 }
 
-/// The rest is put to quinn, as it would be if there were no version information, which is then added to what is accepted.
+/// The rest is put to quinn, as it would be if there were no version information, which is then
+/// added to what is accepted.
 fn by_versions(c: &Case) -> Answer {
     let (x, value) = if c.op.takes_extension() {
         versions::struck(c.x).expect("it names version information")
@@ -186,8 +192,8 @@ fn in_kinds(c: &Case, a: Answer) -> Answer {
     kind.map_or(a, Answer::refused)
 }
 
-/// What quinn refuses is 13 if an ID that is needed is absent, else 14: both need initial_src_cid, and a client original_dst_cid and, after a
-/// Retry, retry_src_cid.
+/// What quinn refuses is 13 if an ID that is needed is absent, else 14: both need initial_src_cid,
+/// and a client original_dst_cid and, after a Retry, retry_src_cid.
 fn in_stages(c: &Case, a: Answer) -> Answer {
     if c.op != Op::Authenticate || c.declined != 0 {
         return a;
@@ -200,8 +206,9 @@ fn in_stages(c: &Case, a: Answer) -> Answer {
     if is_absent { Answer::refused(13) } else { a }
 }
 
-/// Behind a number that quinn reads stands how many bytes its shortest form would have saved. Of an extension that it accepts all five counts
-/// are due, the first being how many bytes it writes; the four that are bytes make the length.
+/// Behind a number that quinn reads stands how many bytes its shortest form would have saved. Of an
+/// extension that it accepts all five counts are due, the first being how many bytes it writes; the
+/// four that are bytes make the length.
 fn in_counts(c: &Case, a: Answer) -> Answer {
     match c.op {
         _ if a.code != 0 => a,

@@ -1,4 +1,5 @@
-//! Which kind of malformed an extension is: cut off, a second copy, a misfit. quinn tells no kinds, so this is a plain reading of docs/SCOPE.md, Reading.
+//! Which kind of malformed an extension is: cut off, a second copy, a misfit. quinn tells no kinds,
+//! so this is a plain reading of docs/SCOPE.md, Reading.
 
 use crate::{coding::BufExt, inputs::KNOWN, versions};
 

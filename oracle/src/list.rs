@@ -14,8 +14,8 @@
 //! | 16 | number of the case (eight bytes) |
 //! | 24 | number due (eight bytes) |
 //!
-//! What the fields are for each operation is said at `Case` and `Answer`. Of what number_read and report store, the value and the tidied length are
-//! quinn's, the rest is the product's own.
+//! What the fields are for each operation is said at `Case` and `Answer`. Of what number_read and
+//! report store, the value and the tidied length are quinn's, the rest is the product's own.
 
 use std::{
     collections::HashSet,

@@ -6,7 +6,8 @@ include!(concat!(env!("OUT_DIR"), "/quinn.rs"));
 use std::time::Duration;
 pub(crate) use {std::time::Instant, varint::VarInt};
 
-// What those files name of others that cannot be had: only the shape, nothing that is compared but `CidQueue::LEN` (docs/SCOPE.md, Building).
+// What those files name of others that cannot be had: only the shape, nothing that is compared but
+// `CidQueue::LEN` (docs/SCOPE.md, Building).
 
 #[allow(dead_code, non_camel_case_types)]
 #[derive(Debug)]

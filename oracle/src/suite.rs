@@ -470,7 +470,8 @@ impl Suite<'_> {
             "c0000000ff04de1b04800061a8",
             "c0000000ff04de1b04800061a9",
             "6ab200010480007530",
-            // second copies: of grease_quic_bit and min_ack_delay, refused; of an unknown parameter, accepted
+            // second copies: of grease_quic_bit and min_ack_delay, refused; of an unknown
+            // parameter, accepted
             "6ab2006ab200",
             "c0000000ff04de1b0105c0000000ff04de1b0106",
             "c0000000ff04de1b0106c0000000ff04de1b0105",

@@ -1,5 +1,7 @@
-//! Version information (RFC 9368: the layout in section 3, what is refused in section 4). quinn does not know it, and is asked for the rest alone; what it adds
-//! is a plain reading of docs/SCOPE.md and the RFC that shares nothing with the library, and of quinn only how a number is decoded.
+//! Version information (RFC 9368: the layout in section 3, what is refused in section 4). quinn
+//! does not know it, and is asked for the rest alone; what it adds is a plain reading of
+//! docs/SCOPE.md and the RFC that shares nothing with the library, and of quinn only how a number
+//! is decoded.
 
 use crate::{coding::BufExt, inputs, kinds};
 

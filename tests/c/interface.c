@@ -1,5 +1,6 @@
 // Calls each function of the C interface on accepted and refused inputs, and checks what it answers and stores; after a refusal, that
 // nothing behind an output pointer has changed. Writes one line, and exits with 1 if a check failed.
+#include <stddef.h>
 #include <stdio.h>
 #include <string.h>
 
@@ -12,6 +13,14 @@
 // How many places an order has, and where an image's version information stands.
 enum { PLACES = YUTHPRAM_PLACES, VERSIONS = 304 };
 _Static_assert(YUTHPRAM_INTERFACE_VERSION == 2, "the interface of this program");
+// The layout of the counts: five numbers, one behind the other.
+#define STANDS(field, index) _Static_assert(offsetof(yuthpram_counts, field) == (index) * sizeof(size_t), #field)
+STANDS(tidied, 0);
+STANDS(skipped, 1);
+STANDS(restated, 2);
+STANDS(saved, 3);
+STANDS(named, 4);
+_Static_assert(sizeof(yuthpram_counts) == 5 * sizeof(size_t), "and nothing else");
 
 // Every output that a call is lent, filled with a pattern before it.
 static uint8_t out[400];
@@ -157,13 +166,15 @@ static void connection_ids(void)
     REFUSES(7, yuthpram_cid_write(tail, CID, out, 0, &count));
 }
 
-// Every refusal has its number, and words of its own.
+// Every refusal has its number, and words of its own; those that nothing gives yet too.
 static void refusals(void)
 {
     static const uint8_t numbers[] = {
         YUTHPRAM_OK, YUTHPRAM_MALFORMED, YUTHPRAM_ILLEGAL_VALUE, YUTHPRAM_UNEXPECTED_END, YUTHPRAM_VARINT_BOUNDS_EXCEEDED,
         YUTHPRAM_BUFFER_TOO_SHORT, YUTHPRAM_INVALID_ORDER, YUTHPRAM_ILL_FORMED, YUTHPRAM_LIMIT_REDUCED, YUTHPRAM_INVALID_DRAW, YUTHPRAM_CUT,
-        YUTHPRAM_MISFIT, YUTHPRAM_SECOND_COPY, YUTHPRAM_CID_ABSENT, YUTHPRAM_CID_MISMATCH, 15,
+        YUTHPRAM_MISFIT, YUTHPRAM_SECOND_COPY, YUTHPRAM_CID_ABSENT, YUTHPRAM_CID_MISMATCH, YUTHPRAM_INVALID_SETTING,
+        YUTHPRAM_INVALID_STREAM, YUTHPRAM_STREAM_LIMIT_EXCEEDED, YUTHPRAM_CONNECTION_LIMIT_EXCEEDED, YUTHPRAM_INVALID_FILE,
+        YUTHPRAM_INVALID_ROLE, YUTHPRAM_INVALID_RANGE, 22,
     };
     for (uint8_t i = 0; i < sizeof numbers; i++) {
         CHECK(numbers[i] == i);
@@ -171,7 +182,7 @@ static void refusals(void)
             CHECK(strcmp(yuthpram_strerror(i), yuthpram_strerror(j)) != 0);
     }
     CHECK(strcmp(yuthpram_strerror(YUTHPRAM_ILLEGAL_VALUE), "illegal value") == 0);
-    CHECK(strcmp(yuthpram_strerror(15), yuthpram_strerror(255)) == 0);
+    CHECK(strcmp(yuthpram_strerror(22), yuthpram_strerror(255)) == 0);
 }
 
 // The image of the default record.
@@ -602,6 +613,30 @@ static void reporting(void)
     REFUSES(YUTHPRAM_SECOND_COPY, yuthpram_report(YUTHPRAM_CLIENT, twice, sizeof twice, &counts));
     REFUSES(YUTHPRAM_MISFIT, yuthpram_report(YUTHPRAM_CLIENT, left, sizeof left, &counts));
     REFUSES(YUTHPRAM_ILLEGAL_VALUE, yuthpram_report(YUTHPRAM_CLIENT, illegal, sizeof illegal, &counts));
+}
+
+// Each count in its field: five that all differ, so that no two of them can be exchanged.
+static void each_count(void)
+{
+    static const uint8_t src[] = {
+        0x1b, 4, 0xaa, 0xbb, 0xcc, 0xdd, // unknown: 6 skipped
+        0x0e, 1, 2, // active_connection_id_limit 2: 3 restated
+        0x40, 0x0a, 1, 3, // ack_delay_exponent 3: 4 restated
+        1, 2, 0x40, 5, // max_idle_timeout 5: 3 tidied, 1 saved
+        4, 4, 0x80, 0, 0, 5, // initial_max_data 5: 3 tidied, 3 saved
+        0x0c, 0, // disable_active_migration: 2 tidied
+    };
+    static const size_t due[] = { 3 + 3 + 2, 6, 3 + 4, 1 + 3, 5 };
+    for (uint8_t side = 0; side < 2; side++) {
+        ACCEPTS(yuthpram_report(side, src, sizeof src, &counts));
+        CHECK(counts.tidied == 8);
+        CHECK(counts.skipped == 6);
+        CHECK(counts.restated == 7);
+        CHECK(counts.saved == 4);
+        CHECK(counts.named == 5);
+        CHECK(memcmp(&counts, due, sizeof due) == 0 && kept(0));
+        CHECK(counts.tidied + counts.skipped + counts.restated + counts.saved == sizeof src);
+    }
 }
 
 // An extension that is put together, and the counts that are due to it.
@@ -1363,6 +1398,7 @@ int main(void)
     order_lengths();
     tidying();
     reporting();
+    each_count();
     number_reports();
     mixed_reports();
     building();
