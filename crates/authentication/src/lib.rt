@@ -5,6 +5,7 @@
 ghost use Rattle.std.specs.Prelude.{◌≡◌};
 ghost use Rattle.refusal.specs.Answer.{outcome_of};
 ghost use Rattle.authentication.specs.Authentication.{formed_seen, has_needed, retry_as_seen, as_seen, authenticate_cids};
+ghost use Rattle.authentication.specs.OtherEnd.{OtherEnd};
 
 use connection_id::ConnectionId;
 use record::{Optional, TransportParameters};
@@ -99,3 +100,11 @@ pub fn authenticate_cids(
     }
     Ok(())
 }
+
+/// Each side accepts exactly what RFC 9000 section 7.3 lists; when 7, 13 and 14 are given; what a
+/// record is accepted with is determined by it; what each side looks at; and that this check and
+/// the value rules are independent.
+#[tactic(auto, using(crate::proofs::Theorem::other_end))]
+pub fn other_end()
+    ensures { OtherEnd }
+{}

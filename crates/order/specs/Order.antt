@@ -35,6 +35,6 @@ first_below zero t = none
 first_below (suc n) t = or_else (first_below n t) (pick (t n) (some n) none)
 
 -- the position of the first entry at fault; the length if there is no such entry and entries are
--- missing; none otherwise (request 04)
+-- missing; none otherwise
 unfoldable pub order_fault : List ℕ → Option ℕ
 order_fault os = or_else (first_below (length os) (faulty os)) (pick (ltb (length os) places) (some (length os)) none)

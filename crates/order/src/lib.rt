@@ -4,6 +4,8 @@
 ghost use Rattle.std.specs.Prelude.{◌≡◌};
 ghost use Rattle.order.specs.Order.{permutation, order_fault};
 ghost use Rattle.order.specs.Answer.{fault_position};
+ghost use Rattle.order.specs.FirstFault.{FirstFault};
+ghost use Rattle.order.specs.OrderLaws.{OrderLaws};
 
 use catalogue::PLACES;
 use marks::{is_marked, with_mark};
@@ -36,3 +38,17 @@ pub fn is_permutation(order: &[u8]) -> bool
 {
     order_fault(order).is_none()
 }
+
+/// What a position of `order_fault` says: the entry there is out of range or repeats an earlier
+/// one, none before it does, and where there is none the order is short; and there is no position
+/// exactly for a permutation.
+#[tactic(auto, using(crate::proofs::Faults::first_fault))]
+pub fn first_fault()
+    ensures { FirstFault }
+{}
+
+/// A permutation has every place; catalogue order is one.
+#[tactic(auto, using(crate::proofs::OrderLaws::order_laws))]
+pub fn order_laws()
+    ensures { OrderLaws }
+{}

@@ -1,4 +1,4 @@
--- The code's answers in the papers' terms, for every operation.
+-- The code's answers in the definitions' terms, for every operation.
 use Rattle.std.specs.Prelude.{Result as Answer, Ok, Err}
 use Rattle.refusal.specs.Outcome.{Outcome, accepted, refused}
 use Rattle.refusal.specs.Number.{number_of}

@@ -1,1 +1,2 @@
 pub mod Theorems
+pub mod ResumptionLaws

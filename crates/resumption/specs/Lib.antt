@@ -1,2 +1,3 @@
 pub mod AbsentAsZero
 pub mod Resumption
+pub mod ResumptionLaws

@@ -4,6 +4,8 @@
 
 ghost use Rattle.std.specs.Prelude.{◌≡◌, leb};
 ghost use Rattle.resumption.specs.Resumption.{limits_kept, size_rank, nothing_reduced, resume, issue_limit};
+ghost use Rattle.resumption.specs.AbsentAsZero.{AbsentAsZero};
+ghost use Rattle.resumption.specs.ResumptionLaws.{ResumptionLaws};
 ghost use Rattle.refusal.specs.Answer.{outcome_of};
 
 use catalogue::{
@@ -77,3 +79,17 @@ pub fn issue_cids_limit(r: &TransportParameters) -> u64
 {
     r.numbers[ACTIVE_CONNECTION_ID_LIMIT].min(LOC_CID_COUNT)
 }
+
+/// On either side an absent max_datagram_frame_size and one of 0 give the same answer; from a
+/// positive one an absent one is refused; and record equality tells absent from 0.
+#[tactic(auto, using(crate::proofs::Theorems::absent_as_zero))]
+pub fn absent_as_zero()
+    ensures { AbsentAsZero }
+{}
+
+/// A well-formed record is resumed to from itself; and what is resumed to from a record that is
+/// resumed to from a third, is from the third.
+#[tactic(auto, using(crate::proofs::ResumptionLaws::resumption_laws))]
+pub fn resumption_laws()
+    ensures { ResumptionLaws }
+{}

@@ -1,4 +1,4 @@
--- The code's answer in the papers' terms.
+-- The code's answer in the definition's terms.
 use Rattle.std.specs.Prelude.{ℕ, Result as Answer, Ok, Err}
 use Rattle.refusal.specs.Outcome.{Outcome, accepted, refused}
 use Rattle.refusal.specs.Number.{number_of}
