@@ -50,6 +50,7 @@ returns c =
       c.address_in.ensures,
       c.value-5.ensures ∙ of_bytes _ _ 15 (omega arith) (no_number 15 address refl address_no),
       c.versions.ensures,
+      c.entries-entries.ensures,
       reserved_absent c.default.result x.0 x.1.0 x.1.1.0 x.1.1.1,
       order_absent c.default-2.result o.0 o.1,
     )
