@@ -1,6 +1,4 @@
--- The length of a record is what writing it stores, proved. Assumes nothing.
---     measure           in every order
---     longest_length    and some record is as long as the longest extension
+-- The length of a record is what writing it stores, in every order; proved. Assumes nothing.
 use Prim.Native.Nat.{ℕ, ◌≤◌, ◌<◌}
 use mathlib.Core.Path.{◌≡◌, refl, ap, sym, ◌∙◌}
 use mathlib.Core.List.{List, [], ◌∷◌, ◌++◌}
@@ -116,6 +114,11 @@ fits bs out n w e s h = s ∙ rw e at (store_fits bs out (omega arith))
 too_short : (bs out : List ℕ) (n : ℕ) (w : Answered) → length bs ≡ n → w ≡ store bs out → (w ≡ (refused 5, out)) ↔ (length out < n)
 too_short bs out n w e s = rw (s, ← e) (store_short bs out)
 
+-- some record is as long as the longest extension
+longest_length : length_of longest_record ≡ accepted max_extension
+unfolding length_of
+longest_length = rw (reached.0, ← length_extension longest_record catalogue_order in_catalogue) (ap accepted reached.1)
+
 pub measure : Measure
 measure =
     record {
@@ -127,9 +130,5 @@ measure =
       ill_formed = ill_formed;
       any_order = λ r os n h l. same_length r n h os l;
       at_most = at_most;
+      longest = (longest_record, longest_length);
     }
-
--- some record is as long as the longest extension
-pub longest_length : length_of longest_record ≡ accepted max_extension
-unfolding length_of
-longest_length = rw (reached.0, ← length_extension longest_record catalogue_order in_catalogue) (ap accepted reached.1)

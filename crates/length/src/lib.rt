@@ -6,6 +6,7 @@ ghost use Rattle.std.specs.Prelude.{◌≡◌, ◌<◌, ◌^◌};
 ghost use Rattle.refusal.specs.Answer.{outcome_of};
 ghost use Rattle.catalogue.specs.Sum.{sum};
 ghost use Rattle.writer.specs.Writing.{length_of};
+ghost use Rattle.length.specs.Measure.{Measure};
 ghost use Rattle.length.specs.Length.{value_length, number_length_at, optional_length, cid_length, reserved_length, address_length, versions_length, others_length};
 
 use catalogue::{
@@ -122,3 +123,10 @@ pub fn length(r: &TransportParameters) -> Result<usize, Refusal>
     let versions = versions_length(&r.version_information) as usize;
     Ok(numbers_length(&r.numbers) + others_length(r) + versions)
 }
+
+/// Whatever permutation is drawn later, writing the record stores exactly so many bytes, and is
+/// refused by 5 exactly if the buffer is shorter; none is over 385, and some record is as long.
+#[tactic(auto, using(crate::proofs::Theorem::measure))]
+pub fn measure()
+    ensures { Measure }
+{}

@@ -1,4 +1,4 @@
--- Request 08 in one piece, proved. Assumes nothing.
+-- The counts of a report account for every byte, proved. Assumes nothing.
 use Prim.Native.Nat.{ℕ}
 use mathlib.Core.Path.{◌≡◌, refl, ap, sym, ◌∙◌}
 use mathlib.Core.List.{List, Permᴰ}

@@ -1,5 +1,5 @@
--- Where the bytes of an extension go (request 08), as a definition: reading's number if a side
--- refuses it; else the counts, which are sums over its parameters, of what each of them alone adds.
+-- Where the bytes of an extension go, as a definition: reading's number if a side refuses it; else
+-- the counts, which are sums over its parameters, of what each of them alone adds.
 use Rattle.std.specs.Prelude.{ℕ, List}
 use Rattle.refusal.specs.Outcome.{Outcome, accepted, and_then}
 use Rattle.rules.specs.declared.Side.{Side}

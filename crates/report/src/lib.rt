@@ -4,6 +4,7 @@
 
 ghost use Rattle.std.specs.Prelude.{◌≡◌};
 ghost use Rattle.refusal.specs.Answer.{outcome_of};
+ghost use Rattle.report.specs.Accounts.{Accounts};
 ghost use Rattle.report.specs.Report.{report};
 
 use refusal::Refusal;
@@ -24,3 +25,10 @@ pub fn report(side: Side, src: &[u8]) -> Result<Counts, Refusal>
         named: marks.count_ones() as usize,
     })
 }
+
+/// The four counts make the length of the extension exactly, and the first is what tidying stores;
+/// the fifth is how many places have a value; they depend neither on the side nor on the order.
+#[tactic(auto, using(crate::proofs::Theorem::accounts))]
+pub fn accounts()
+    ensures { Accounts }
+{}

@@ -4,3 +4,4 @@ pub mod Parts
 pub mod Places
 pub mod Ordered
 pub mod Answers
+pub mod WritingLaws

@@ -13,6 +13,7 @@ ghost use Rattle.wire.specs.Wire.{put, due_value, due_number, due_number_at};
 ghost use Rattle.wire.specs.Stored.{Wrote, each};
 ghost use Rattle.address.specs.Address.{address_bytes};
 ghost use Rattle.writer.specs.Writing.{parameter_at, concat_of, order_of, write};
+ghost use Rattle.writer.specs.WritingLaws.{WritingLaws};
 ghost use Rattle.writer.specs.Laid.{five, Field, Adds, RoomFor, Before, part_at, InOrder, Fit, Front, bytes_in, Ready};
 
 use address::put_address;
@@ -305,3 +306,10 @@ pub fn write(r: &TransportParameters, out: &mut [u8]) -> Result<usize, Refusal>
     let n = draft.catalogue(r);
     draft.put(n, &r.write_order, out)
 }
+
+/// The bytes of a record are as many in every order; no well-formed record is longer than 385
+/// bytes, and there is one of exactly so many.
+#[tactic(auto, using(crate::proofs::WritingLaws::writing_laws))]
+pub fn writing_laws()
+    ensures { WritingLaws }
+{}
