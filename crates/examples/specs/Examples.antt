@@ -63,7 +63,7 @@ abbrev pub Each : List Example → Type 0
 Each [] = Unit {0}
 Each (x ∷ xs) = Holds x × Each xs
 
--- the counts of a report, in document 02's order
+-- the counts of a report, in the order of docs/SCOPE.md
 abbrev pub goes : ℕ → ℕ → ℕ → ℕ → ℕ → Counts
 goes a b c d n = record { tidied = a; skipped = b; restated = c; saved = d; named = n }
 
@@ -219,37 +219,41 @@ examples =
     ∷ reading Client (0xc0 ∷ 0x00 ∷ 0x00 ∷ 0x00 ∷ 0xff ∷ 0x04 ∷ 0xde ∷ 0x1b ∷ 0x04 ∷ 0x80 ∷ 0x00 ∷ 0x61 ∷ 0xa9 ∷ []) (refused 2)
     ∷  -- (n)
     writing (with (numbers 30000 65527 25) false true None no_versions reversed) (0x6a ∷ 0xb2 ∷ 0x00 ∷ 0x01 ∷ 0x04 ∷ 0x80 ∷ 0x00 ∷ 0x75 ∷ 0x30 ∷ [])
-    ∷  -- and its length, in that order, before one is drawn and with one that is no permutation; a default; a number of 2 ^ 62
+    ∷  -- and its length, in that order, before one is drawn and with one that is no permutation; a
+    -- default; a number of 2 ^ 62
     measuring (with (numbers 30000 65527 25) false true None no_versions reversed) (accepted 9)
     ∷ measuring (with (numbers 30000 65527 25) false true None no_versions no_order) (accepted 9)
     ∷ measuring (with (numbers 30000 65527 25) false true None no_versions nowhere) (accepted 9)
     ∷ measuring default_record (accepted 0)
     ∷ measuring (plain (numbers bound 65527 25)) (refused 7)
-    ∷  -- second copies (request 02): grease_quic_bit, min_ack_delay, and a preferred address that would be 2 by itself; unknown ones are skipped
+    ∷  -- second copies: grease_quic_bit, min_ack_delay, and a preferred address that would be 2 by
+    -- itself; unknown ones are skipped
     reading Client (grease ++ grease) (refused 12)
     ∷ reading Client (delayed 5 ++ delayed 6) (refused 12)
     ∷ reading Client (addressed 1 1 0 ++ addressed 0 1 0) (refused 12)
     ∷ reading Client (addressed 0 1 0) (refused 2)
     ∷ reading Client (0x1b ∷ 0x00 ∷ 0x1b ∷ 0x00 ∷ []) (accepted default_record)
-    ∷  -- other orders (request 03): (b), an unknown parameter in a longer form and grease_quic_bit
+    ∷  -- other orders: (b), an unknown parameter in a longer form and grease_quic_bit
     reading Client (idle ++ (unknown ++ grease)) (accepted (with (numbers 30000 65527 25) false true None no_versions no_order))
     ∷ reading Client (grease ++ (idle ++ unknown)) (accepted (with (numbers 30000 65527 25) false true None no_versions no_order))
-    ∷  -- faults of an order (request 04): a repeat; an entry out of range before one; nothing there; an entry missing; none; one too many
+    ∷  -- faults of an order: a repeat; an entry out of range before one; nothing there; an entry
+    -- missing; none; one too many
     ordering (3 ∷ 1 ∷ 4 ∷ 1 ∷ 5 ∷ []) (some 3)
     ∷ ordering (7 ∷ 22 ∷ 7 ∷ []) (some 1)
     ∷ ordering [] (some 0)
     ∷ ordering (take 21 reversed.places) (some 21)
     ∷ ordering reversed.places none
     ∷ ordering (reversed.places ++ (0 ∷ [])) (some 22)
-    ∷  -- datagram sizes (request 05): for resumption absent is 0, and less than 1; reading and writing tell it from 0
+    ∷  -- datagram sizes: for resumption absent is 0, and less than 1; reading and writing tell it
+    -- from 0
     resuming (datagrams None) (datagrams (Some 0)) (accepted tt)
     ∷ resuming (datagrams (Some 0)) (datagrams None) (accepted tt)
     ∷ resuming (datagrams None) (datagrams (Some 1)) (refused 8)
     ∷ reading Client (0x20 ∷ 0x01 ∷ 0x00 ∷ []) (accepted (datagrams (Some 0)))
     ∷ writing (datagrams (Some 0)) (0x20 ∷ 0x01 ∷ 0x00 ∷ [])
     ∷ writing (datagrams None) []
-    ∷  -- kinds of fault (request 06). The cut: an identifier and a length that can't be read, a length one beyond what is left, that of a second copy too;
-    -- behind a value that a rule forbids
+    ∷  -- kinds of fault. The cut: an identifier and a length that can't be read, a length one
+    -- beyond what is left, that of a second copy too; behind a value that a rule forbids
     reading Client (0x40 ∷ []) (refused 10)
     ∷ reading Client (0x01 ∷ 0x40 ∷ []) (refused 10)
     ∷ reading Client (0x01 ∷ 0x02 ∷ 0x05 ∷ []) (refused 10)
@@ -262,16 +266,19 @@ examples =
     ∷ reading Client (addressed 1 21 0) (refused 11)
     ∷ reading Client (addressed 1 1 1) (refused 11)
     ∷ reading Client (addressed 0 1 1) (refused 2)
-    ∷  -- who is at the other end (request 07). The handshakes of figures 7 and 8, without Retry and with one: either side accepts the other
+    ∷  -- who is at the other end. The handshakes of figures 7 and 8, without Retry and with one:
+    -- either side accepts the other
     authenticating Server (says 0x0f c1) (seen c1 s1 no_retry) (accepted tt)
     ∷ authenticating Client (says 0x00 s1 ++ says 0x0f s3) (seen s3 s1 no_retry) (accepted tt)
     ∷ authenticating Server (says 0x0f c1) (seen c1 s1 (retry s2)) (accepted tt)
     ∷ authenticating Client (says 0x00 s1 ++ (says 0x0f s3 ++ says 0x10 s2)) (seen s3 s1 (retry s2)) (accepted tt)
-    ∷  -- a Retry that the server does not know of; none, and the server knows of one; another Retry than the server's
+    ∷  -- a Retry that the server does not know of; none, and the server knows of one; another Retry
+    -- than the server's
     authenticating Client (says 0x00 s1 ++ says 0x0f s3) (seen s3 s1 (retry s2)) (refused 13)
     ∷ authenticating Client (says 0x00 s1 ++ (says 0x0f s3 ++ says 0x10 s2)) (seen s3 s1 no_retry) (refused 14)
     ∷ authenticating Client (says 0x00 s1 ++ (says 0x0f s3 ++ says 0x10 s2)) (seen s3 s1 (retry s3)) (refused 14)
-    ∷  -- another peer; another first packet; no ID at all, which reading accepts; an absence before a mismatch; IDs of equal bytes and zeros
+    ∷  -- another peer; another first packet; no ID at all, which reading accepts; an absence before
+    -- a mismatch; IDs of equal bytes and zeros
     authenticating Server (says 0x0f c1) (seen s2 s1 no_retry) (refused 14)
     ∷ authenticating Client (says 0x00 s2 ++ says 0x0f s3) (seen s3 s1 no_retry) (refused 14)
     ∷ authenticating Server [] (seen c1 s1 no_retry) (refused 13)
@@ -279,8 +286,9 @@ examples =
     ∷ authenticating Server (says 0x0f (7 ∷ 0 ∷ [])) (seen (7 ∷ []) s1 no_retry) (refused 14)
     ∷  -- an ID of over 20 bytes that a server does not look at
     authenticating Server (says 0x0f c1) (record { initial_src_cid = cid_of c1; original_dst_cid = too_long; retry_src_cid = no_retry }) (refused 7)
-    ∷  -- where the bytes go (request 08): nothing; an unknown parameter; a default; an identifier, a length and a number in two bytes each; such a default, which
-    -- is counted whole; an unknown one behind (b); a second copy
+    ∷  -- where the bytes go: nothing; an unknown parameter; a default; an identifier, a length and
+    -- a number in two bytes each; such a default, which is counted whole; an unknown one behind
+    -- (b); a second copy
     reporting Client [] (accepted (goes 0 0 0 0 0))
     ∷ reporting Client (0x1b ∷ 0x03 ∷ 0xaa ∷ 0xbb ∷ 0xcc ∷ []) (accepted (goes 0 5 0 0 0))
     ∷ reporting Client (0x0e ∷ 0x01 ∷ 0x02 ∷ []) (accepted (goes 0 0 3 0 1))
@@ -288,7 +296,8 @@ examples =
     ∷ reporting Client (0x40 ∷ 0x0a ∷ 0x40 ∷ 0x02 ∷ 0x40 ∷ 0x03 ∷ []) (accepted (goes 0 0 6 0 1))
     ∷ reporting Client (idle ++ (unknown ++ grease)) (accepted (goes 9 (length unknown) 0 0 2))
     ∷ reporting Client (0x01 ∷ 0x01 ∷ 0x05 ∷ 0x01 ∷ 0x01 ∷ 0x05 ∷ []) (refused 12)
-    ∷  -- version information (request 09): what Chromium sends; a chosen version that is not available, which a client takes; no available ones
+    ∷  -- version information: what Chromium sends; a chosen version that is not available, which a
+    -- client takes; no available ones
     reading Server (says 0x11 (v1 ++ (v1 ++ reserved_version))) (accepted (informed (offering 1 (1 ∷ 0xbada7aba ∷ []))))
     ∷ reading Server (says 0x11 (v1 ++ v2)) (refused 2)
     ∷ reading Client (says 0x11 (v1 ++ v2)) (accepted (informed (offering 1 (0x6b3343cf ∷ []))))
@@ -303,7 +312,8 @@ examples =
     ∷ reading Client (says 0x11 (v1 ++ (0x00 ∷ []))) (refused 11)
     ∷ reading Client (0x11 ∷ 0x40 ∷ 0x48 ∷ replicate 72 0xaa) (refused 11)
     ∷ reading Client (says 0x11 v1 ++ says 0x11 v1) (refused 12)
-    ∷  -- 16 available ones: 68 bytes behind a length of two; 15: 64 bytes; 14: 60, and a length of one
+    ∷  -- 16 available ones: 68 bytes behind a length of two; 15: 64 bytes; 14: 60, and a length of
+    -- one
     reading Client (0x11 ∷ 0x40 ∷ 0x44 ∷ replicate 68 0x01) (accepted (informed (offering 0x01010101 (replicate 16 0x01010101))))
     ∷ writing (informed (offering 0x01010101 (replicate 16 0x01010101))) (0x11 ∷ 0x40 ∷ 0x44 ∷ replicate 68 0x01)
     ∷ measuring (informed (offering 1 (replicate 15 1))) (accepted 67)
