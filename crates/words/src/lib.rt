@@ -4,6 +4,7 @@
 ghost use Rattle.std.specs.Prelude.{◌≡◌, ◌+◌, ◌*◌, ◌/◌, ◌^◌, ◌≤◌, eqb, leb, length, take, drop, replicate};
 ghost use Rattle.refusal.specs.Outcome.{pick};
 ghost use Rattle.words.specs.Words.{zeros, Word};
+ghost use Rattle.words.specs.WordLaws.{WordLaws};
 
 /// The bytes of a slice from place `at` on, as an array; zeros where there are fewer. The compiler
 /// makes one load of them.
@@ -78,3 +79,10 @@ pub fn all_zero(v: &[u8]) -> bool
     }
     met == 0
 }
+
+/// Numbers of any width, one after another: they are read back from their bytes, bytes have those
+/// of the numbers that they are read as, and zeros behind whole numbers change nothing.
+#[tactic(auto, using(crate::proofs::WordLaws::word_laws))]
+pub fn word_laws()
+    ensures { WordLaws }
+{}
