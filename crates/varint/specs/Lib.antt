@@ -1,2 +1,3 @@
 pub mod Number
 pub mod Answer
+pub mod NumberLaws

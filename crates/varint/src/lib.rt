@@ -7,6 +7,7 @@ ghost use Rattle.words.specs.Words.{bytes_of};
 ghost use Rattle.varint.specs.Number.{number_bytes, with_saved, read_number, read_wide, write_number, convert_number, size_number};
 ghost use Rattle.varint.specs.Answer.{convert_outcome};
 ghost use Rattle.refusal.specs.Answer.{outcome_of};
+ghost use Rattle.varint.specs.NumberLaws.{NumberLaws};
 
 use refusal::Refusal;
 use words::bytes_at;
@@ -216,3 +217,11 @@ fn put(x: u64, out: &mut [u8]) -> usize
         store(((3 << 62) | x).to_be_bytes(), out)
     }
 }
+
+/// A written number is read back, in every form that has room for it and whatever follows; what is
+/// read is below 2^62, within the input, and as long as its shortest form and what this would have
+/// saved.
+#[tactic(auto, using(crate::proofs::NumberLaws::number_laws))]
+pub fn number_laws()
+    ensures { NumberLaws }
+{}
