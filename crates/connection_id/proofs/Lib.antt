@@ -1,3 +1,4 @@
 pub mod Laws
 pub mod Defaults
 pub mod Answers
+pub mod ConnectionIdLaws

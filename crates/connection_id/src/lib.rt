@@ -5,6 +5,7 @@
 ghost use Rattle.std.specs.Prelude.{◌≡◌, [], ◌≤◌, length};
 ghost use Rattle.connection_id.specs.ConnectionId.{cid_of, formed_cid, same_cid, make_cid, read_cid, write_cid};
 ghost use Rattle.refusal.specs.Answer.{outcome_of};
+ghost use Rattle.connection_id.specs.ConnectionIdLaws.{ConnectionIdLaws};
 
 use refusal::Refusal;
 use words::zero_from;
@@ -111,3 +112,11 @@ fn cid_of(v: &[u8]) -> ConnectionId
         bytes,
     }
 }
+
+/// A written ID is read back, whatever follows; what is read is well formed, within the input and in
+/// its only form; two IDs are the same exactly if they are equal, well-formed ones exactly if their
+/// bytes are.
+#[tactic(auto, using(crate::proofs::ConnectionIdLaws::connection_id_laws))]
+pub fn connection_id_laws()
+    ensures { ConnectionIdLaws }
+{}
