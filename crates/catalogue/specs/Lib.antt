@@ -1,2 +1,3 @@
 pub mod Catalogue
 pub mod Sum
+pub mod PlaceLaws

@@ -4,6 +4,7 @@
 
 ghost use Rattle.std.specs.Prelude.{◌≡◌, map};
 ghost use Rattle.catalogue.specs.Catalogue.{names, ids, defaults, place_of};
+ghost use Rattle.catalogue.specs.PlaceLaws.{PlaceLaws};
 
 /// How many places the catalogue has; the first of them hold plain numbers.
 pub const PLACES: usize = 22;
@@ -213,3 +214,10 @@ pub fn place_of(id: u64) -> usize
         _ => PLACES,
     }
 }
+
+/// Known identifiers and places, but for the reserved parameter's, belong to one another; a reserved
+/// identifier is unknown.
+#[tactic(auto, using(crate::proofs::PlaceLaws::place_laws))]
+pub fn place_laws()
+    ensures { PlaceLaws }
+{}
