@@ -1,1 +1,2 @@
 pub mod VersionInformation
+pub mod VersionLaws

@@ -8,6 +8,7 @@ ghost use Rattle.refusal.specs.Answer.{outcome_of};
 ghost use Rattle.words.specs.Words.{zeros, member, bytes_of, numbers_of};
 ghost use Rattle.catalogue.specs.Catalogue.{versions, fits};
 ghost use Rattle.version_information.specs.VersionInformation.{formed_versions, available_in, all_bytes, versions_with, make_versions, read_versions};
+ghost use Rattle.version_information.specs.VersionLaws.{VersionLaws};
 
 use refusal::Refusal;
 use words::bytes_at;
@@ -173,3 +174,10 @@ fn available_of(bytes: &[u8; 68]) -> [u32; 16]
     }
     available
 }
+
+/// What is well formed and present is read back from its bytes, 4 and 4 for each available version;
+/// what is read has the bytes of the value, and is well formed.
+#[tactic(auto, using(crate::proofs::VersionLaws::version_laws))]
+pub fn version_laws()
+    ensures { VersionLaws }
+{}
