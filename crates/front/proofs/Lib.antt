@@ -4,3 +4,4 @@ pub mod Split
 pub mod Parts
 pub mod Rearranged
 pub mod Walk
+pub mod ParameterLaws

@@ -7,6 +7,7 @@ ghost use Rattle.std.specs.Iterator.{at_most};
 ghost use Rattle.front.specs.Parameter.{located};
 ghost use Rattle.front.specs.Answer.{refused_with, fault_outcome};
 ghost use Rattle.front.specs.Walk.{Steps};
+ghost use Rattle.front.specs.ParameterLaws.{ParameterLaws};
 
 use refusal::Refusal;
 use varint::VarInt;
@@ -133,3 +134,11 @@ impl<'a, const COUNTED: bool> Iterator for Parameters<'a, COUNTED> {
         Some((at, read))
     }
 }
+
+/// A written parameter is read back, whatever follows; what is read is whole by itself; the one at a
+/// position is that at the front of the bytes from there on; the parameters of whole ones, one after
+/// another, are these.
+#[tactic(auto, using(crate::proofs::ParameterLaws::parameter_laws))]
+pub fn parameter_laws()
+    ensures { ParameterLaws }
+{}
