@@ -9,3 +9,4 @@ pub mod Built
 pub mod Given
 pub mod Agree
 pub mod Indexed
+pub mod ReadingLaws

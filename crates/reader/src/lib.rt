@@ -11,6 +11,7 @@ ghost use Rattle.record.specs.Values.{token_of, cid_in, token_in, address_in, fa
 ghost use Rattle.index.specs.Answer.{found_of, option_of};
 ghost use Rattle.reader.specs.Reading.{read};
 ghost use Rattle.reader.specs.Kept.{record_kept, FitsIfAny};
+ghost use Rattle.reader.specs.ReadingLaws.{ReadingLaws};
 
 use catalogue::{
     DISABLE_ACTIVE_MIGRATION, GREASE_QUIC_BIT, INITIAL_SRC_CID, MAX_DATAGRAM_FRAME_SIZE,
@@ -142,3 +143,11 @@ pub fn read(side: Side, src: &[u8]) -> Result<TransportParameters, Refusal>
     let kept = index::index(side, src)?;
     Ok(record_of(&kept))
 }
+
+/// Whole parameters are received one after another; what a side accepts is legal for it, and the
+/// record does not depend on the side; a second copy is 12, and nothing accepted has one; the record
+/// is that of what the index keeps.
+#[tactic(auto, using(crate::proofs::ReadingLaws::reading_laws))]
+pub fn reading_laws()
+    ensures { ReadingLaws }
+{}
