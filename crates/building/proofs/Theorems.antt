@@ -30,6 +30,7 @@ use Rattle.record.proofs.Records as Places
 use Rattle.order.specs.Order.{permutation}
 use Rattle.building.specs.declared.Settings.{Settings}
 use Rattle.building.specs.Building.{sent_settings, settings_fit, id_limit, cut_size, numbers_from, draw_fits, reserved_id, reserved_from, drawn_order, built_record, build}
+use Rattle.building.specs.BuildingLaws.{Sound, BuildingLaws}
 use Rattle.building.proofs.Answers.{draw_facts, order_length}
 
 -- NUMBERS below 2 ^ 62
@@ -144,13 +145,6 @@ record_formed s cid draw payload order r p =
       order_formed order (order_length order p.ordered),
     )
 
-pub record Sound (order : List ℕ) (r : TransportParameters) : Type 0 where
-  pub formed : well_formed r ≡ true
-  pub order_kept : r.write_order ≡ drawn_order order
-  pub ordered : permutation order ≡ true
-  pub reserved : r.grease_transport_parameter.id % 31 ≡ 27
-  pub below : r.grease_transport_parameter.id < 2 ^ 62
-
 module _ (s : Settings) (cid : ConnectionId) (draw : ℕ) (payload order : List ℕ) (r : TransportParameters) (h : build s cid draw payload order ≡ accepted r) where
   pub built_sound : Sound order r
   unfolding built_record reserved_from
@@ -163,3 +157,6 @@ module _ (s : Settings) (cid : ConnectionId) (draw : ℕ) (payload order : List 
         reserved = rw (← p.is) (id_reserved draw);
         below = rw (← p.is) (id_below draw (draw_facts draw payload p.drawn).0);
       }
+
+pub building_laws : BuildingLaws
+building_laws = record { built_sound = built_sound }

@@ -9,6 +9,7 @@ ghost use Rattle.order.specs.Order.{permutation};
 ghost use Rattle.rules.specs.Rules.{is_server};
 ghost use Rattle.building.specs.Building.{settings_fit, cut_size, numbers_from, draw_fits, reserved_id, reserved_from, drawn_order, built_record, build};
 ghost use Rattle.refusal.specs.Answer.{outcome_of};
+ghost use Rattle.building.specs.BuildingLaws.{BuildingLaws};
 
 use catalogue::{ACK_DELAY_EXPONENT, ACTIVE_CONNECTION_ID_LIMIT, DEFAULTS, MAX_ACK_DELAY, NUMBERS};
 use connection_id::ConnectionId;
@@ -211,3 +212,10 @@ pub fn new(
     let places = order_of(order)?;
     Ok(record_of(&settings, initial_src_cid, reserved, places))
 }
+
+/// A record that is built is well formed, and has the order handed in, which is a permutation, and a
+/// reserved identifier.
+#[tactic(auto, using(crate::proofs::Theorems::building_laws))]
+pub fn building_laws()
+    ensures { BuildingLaws }
+{}

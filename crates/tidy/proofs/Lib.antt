@@ -1,3 +1,4 @@
 pub mod Laws
 pub mod Pieces
 pub mod Storing
+pub mod TidyingLaws

@@ -1,2 +1,3 @@
 pub mod Tidying
 pub mod Pieces
+pub mod TidyingLaws

@@ -12,6 +12,7 @@ ghost use Rattle.wire.specs.Stored.{joined, each};
 ghost use Rattle.writer.specs.Laid.{laid};
 ghost use Rattle.tidy.specs.Tidying.{tidy};
 ghost use Rattle.tidy.specs.Pieces.{piece_for, others, pieces};
+ghost use Rattle.tidy.specs.TidyingLaws.{TidyingLaws};
 
 use catalogue::{
     DEFAULTS, IDS, MAX_EXTENSION, NUMBER_PLACES, NUMBERS, STATELESS_RESET_TOKEN,
@@ -107,3 +108,10 @@ pub fn tidy(side: Side, src: &[u8], out: &mut [u8]) -> Result<usize, Refusal>
     let kept = index::index(side, src)?;
     put_tidied(&kept, out)
 }
+
+/// What is stored of an accepted extension are the parameters of its record, in catalogue order, and
+/// these are the pieces that are found in the extension.
+#[tactic(auto, using(crate::proofs::TidyingLaws::tidying_laws))]
+pub fn tidying_laws()
+    ensures { TidyingLaws }
+{}
