@@ -19,14 +19,11 @@ use Rattle.words.specs.Words.{member}
 use Rattle.order.specs.Order.{distinct}
 use Rattle.writer.specs.Writing.{concat_of}
 use Rattle.order.proofs.Orders.{first, full}
+use Rattle.canonical.specs.OperationLaws.{Adds}
 
 -- values but those of some places
 unfoldable pub without : List ℕ → Values → Values
 without os t q = pick (member q os) none (t q)
-
--- f p, for each place p, is read as the value that t has there
-abbrev pub Adds : Values → (ℕ → List ℕ) → Type 0
-Adds t f = (p : ℕ) → p < places → (l : Values) (cs : List ℕ) → l p ≡ none → parse l (f p ++ cs) ≡ parse (upd l p (t p)) cs
 
 -- by induction on the order, from the values of all places but those that are to come
 pub ordered : (t : Values) (f : ℕ → List ℕ) → Adds t f → (os : List ℕ) → distinct os ≡ true → parse (without os t) (concat_of f os) ≡ accepted t

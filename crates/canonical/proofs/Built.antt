@@ -13,7 +13,8 @@ use Rattle.record.specs.declared.TransportParameters.{TransportParameters}
 use Rattle.writer.specs.Writing.{order_of, extension, write}
 use Rattle.building.specs.declared.Settings.{Settings}
 use Rattle.building.specs.Building.{drawn_order, build}
-use Rattle.building.proofs.Theorems.{Sound, built_sound}
+use Rattle.building.specs.BuildingLaws.{Sound}
+use Rattle.building.proofs.Theorems.{built_sound}
 
 module _ (s : Settings) (cid : ConnectionId) (draw : ℕ) (payload order : List ℕ) (r : TransportParameters) (h : build s cid draw payload order ≡ accepted r) where
   is_sound : Sound order r

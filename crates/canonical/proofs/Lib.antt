@@ -5,3 +5,4 @@ pub mod Rearranged
 pub mod ThreeKinds
 pub mod Built
 pub mod Measured
+pub mod OperationLaws

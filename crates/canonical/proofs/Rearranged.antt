@@ -1,4 +1,4 @@
--- Request 03, proved. Assumes nothing.
+-- Whole parameters in another order, proved. Assumes nothing.
 use Prim.Native.Nat.{ℕ}
 use mathlib.Core.Path.{◌≡◌, refl, ap, sym, ◌∙◌}
 use mathlib.Core.List.Permᴰ

@@ -1,4 +1,4 @@
--- Demand 3, proved. Assumes nothing.
+-- The canonical form, proved. Assumes nothing.
 use Prim.Native.Nat.{ℕ, ◌≤◌}
 use mathlib.Core.Path.{◌≡◌, refl, ap, sym, ◌∙◌, subst}
 use mathlib.Core.List.{List}
@@ -20,7 +20,7 @@ use Rattle.writer.specs.Writing.{extension, order_of, write}
 use Rattle.order.specs.Order.{permutation, catalogue_order}
 use Rattle.tidy.specs.Tidying.{tidy_from, tidy}
 use Rattle.tidy.proofs.Laws.{tidy_formed, tidied}
-use Rattle.canonical.specs.Demand.{Accepts, Demand}
+use Rattle.canonical.specs.CanonicalForm.{Accepts, CanonicalForm}
 use Rattle.canonical.proofs.Written.{read_back, catalogue_back, shortest}
 
 -- what tidying stored, of a record that was read
@@ -87,8 +87,8 @@ no_shorter :
     → read s e ≡ accepted r → read s' e' ≡ accepted r → n ≤ length e'
 no_shorter s s' e e' out o n r hb hb' t k k' = omega (arith, (tidy_stored s e out o n r hb k t).count, shortest s' e' r hb' k')
 
-pub demand : Demand
-demand =
+pub canonical_form : CanonicalForm
+canonical_form =
     record {
       reads_back = reads_back;
       whole = whole;

@@ -36,7 +36,8 @@ use Rattle.order.specs.Order.{permutation, catalogue_order}
 use Rattle.order.proofs.Orders.{in_catalogue}
 use Rattle.writer.proofs.Extension.{length_extension}
 use Rattle.writer.proofs.Places.{widest_le}
-use Rattle.canonical.proofs.AnyOrder.{Adds, every_order}
+use Rattle.canonical.specs.OperationLaws.{Adds}
+use Rattle.canonical.proofs.AnyOrder.{every_order}
 
 -- an update by what is there already
 upd_none : (l : Values) (p : ℕ) → l p ≡ none → upd l p none ≡ l

@@ -1,6 +1,7 @@
--- Request 03, beside demand 3: encoders shuffle as well. What a side accepts it accepts in every
--- order of its whole parameters, unknown ones among them, with the same record. That it is made of
--- whole parameters, in one way, is `whole` and `once` of `Demand`.
+-- Any order from the sender, since encoders shuffle (RFC 9000 section 7.4 fixes none). What a side
+-- accepts it accepts in every order of its whole parameters, unknown ones among them, with the same
+-- record. That it is made of whole parameters, in one way, is `whole` and `once` of
+-- `CanonicalForm`.
 use Rattle.std.specs.Prelude.{ℕ, ◌≡◌, List, [], ◌∷◌, ◌++◌, length, replicate}
 use Rattle.refusal.specs.Outcome.{accepted, refused}
 use Rattle.record.specs.declared.TransportParameters.{TransportParameters}
@@ -19,14 +20,21 @@ left_over = 0x01 ∷ 0x02 ∷ 0x05 ∷ 0x00 ∷ []
 pub record Rearrangement : Type 0 where
   -- e' has the whole parameters of e in another order: the side that accepts e accepts e', with the
   -- same record
-  pub same_record : (s : Side) (e e' : List ℕ) (r : TransportParameters) → Rearranged e e' → read s e ≡ accepted r → read s e' ≡ accepted r
+  pub same_record :
+      (s : Side) (e e' : List ℕ) (r : TransportParameters) → Rearranged e e'
+      → read s e ≡ accepted r → read s e' ≡ accepted r
   -- so tidying them for that side gives the same answer and stores the same bytes
-  pub tidies_alike : (s : Side) (e e' out : List ℕ) (r : TransportParameters) → Rearranged e e' → read s e ≡ accepted r → tidy s e' out ≡ tidy s e out
+  pub tidies_alike :
+      (s : Side) (e e' out : List ℕ) (r : TransportParameters) → Rearranged e e'
+      → read s e ≡ accepted r → tidy s e' out ≡ tidy s e out
   -- and they have the same length
   pub same_length : (e e' : List ℕ) → Rearranged e e' → length e' ≡ length e
-  -- refused ones are outside the request. Whole parameters that a side refuses it refuses in every
-  -- order,
-  pub still_refused : (s : Side) (e e' : List ℕ) (n : ℕ) → Rearranged e e' → read s e ≡ refused n → (n' : ℕ) × (read s e' ≡ refused n')
+  -- whole parameters that a side refuses it refuses in every order,
+  pub still_refused :
+      (s : Side) (e e' : List ℕ) (n : ℕ) → Rearranged e e' → read s e ≡ refused n
+      → (n' : ℕ) × (read s e' ≡ refused n')
   -- but not always by the same number: of two faults the first from the front counts
   pub two_faults : Rearranged (no_family ++ left_over) (left_over ++ no_family)
-  pub first_fault : (s : Side) → (read s (no_family ++ left_over) ≡ refused 2) × (read s (left_over ++ no_family) ≡ refused 11)
+  pub first_fault :
+      (s : Side) → (read s (no_family ++ left_over) ≡ refused 2)
+      × (read s (left_over ++ no_family) ≡ refused 11)

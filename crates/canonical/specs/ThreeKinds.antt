@@ -1,7 +1,7 @@
--- Request 06: malformed, in three kinds. What reading and tidying refused with 1 they refuse with
--- 10 (the cut), 12 (a second copy) or 11 (a value that does not fit or fill its length, or an ID of
--- over 20 bytes), and nothing else has changed. Where each is given. And what the kinds are for: to
--- tell a cut message from a wrong sender.
+-- Malformed, in three kinds. Where quinn says Malformed, which would be 1, reading and tidying
+-- refuse with 10 (the cut), 12 (a second copy) or 11 (a value that does not fit or fill its length,
+-- or an ID of over 20 bytes), and nothing else differs. Where each is given. And what the kinds are
+-- for: to tell a cut message from a wrong sender.
 use Rattle.std.specs.Prelude.{ℕ, ◌<◌, ◌≡◌, List, ◌∷◌, ◌++◌, ◌↔◌, ◌⊎◌, Bool, true, false, ◌||◌, eqb}
 use Rattle.refusal.specs.Outcome.{Result, Outcome, accepted, refused, pick, and_then}
 use Rattle.record.specs.declared.TransportParameters.{TransportParameters}
@@ -15,7 +15,7 @@ use Rattle.front.specs.Whole.{Composed, Repeated}
 use Rattle.reader.specs.Reading.{parse, judge, read}
 use Rattle.tidy.specs.Tidying.{tidy_from, tidy}
 
--- the numbers before the request, and reading and tidying with them
+-- with the three kinds as one: the numbers, and reading and tidying with them
 abbrev pub formerly : {A : Type 0} → Result Fault A → Outcome A
 formerly (accepted a) = accepted a
 formerly (refused Cut) = refused 1
@@ -29,7 +29,7 @@ former_read s e = formerly (and_then (parse no_values e) (judge s))
 unfoldable pub former_tidy : Side → List ℕ → List ℕ → Outcome ℕ × List ℕ
 former_tidy s e out = tidy_from (former_read s e) out
 
--- from new to old outcomes: the three kinds are 1
+-- the same of an outcome: the three kinds are 1
 abbrev pub is_kind : ℕ → Bool
 is_kind n = eqb n 10 || (eqb n 12 || eqb n 11)
 
@@ -80,13 +80,17 @@ pub record MisfitAt (e : List ℕ) : Type 0 where
   pub misfit : fits (kind_at (place_of id)) v ≡ false
 
 pub record ThreeKinds : Type 0 where
-  -- taken so, reading and tidying give what they gave before, for every input, and the buffer is
-  -- the same
+  -- taken so, reading and tidying give what they give with the kinds as one, for every input, and
+  -- the buffer is the same
   pub reads : (s : Side) (e : List ℕ) → former (read s e) ≡ former_read s e
-  pub tidies : (s : Side) (e out : List ℕ) → (former (tidy s e out).0, (tidy s e out).1) ≡ former_tidy s e out
-  -- one of the three is given exactly where 1 was
-  pub exactly : (s : Side) (e : List ℕ) → ((n : ℕ) × ((read s e ≡ refused n) × (is_kind n ≡ true))) ↔ (former_read s e ≡ refused 1)
-  -- and 1 no more
+  pub tidies :
+      (s : Side) (e out : List ℕ)
+      → (former (tidy s e out).0, (tidy s e out).1) ≡ former_tidy s e out
+  -- one of the three is given exactly where 1 would be
+  pub exactly :
+      (s : Side) (e : List ℕ)
+      → ((n : ℕ) × ((read s e ≡ refused n) × (is_kind n ≡ true))) ↔ (former_read s e ≡ refused 1)
+  -- and 1 is given nowhere
   pub not_one : (s : Side) (e : List ℕ) → read s e ≡ refused 1 → ⊥
   pub tidied_not_one : (s : Side) (e out o : List ℕ) → tidy s e out ≡ (refused 1, o) → ⊥
   -- each kind by itself, for either side: the cut; and, whatever follows, a second copy or a misfit
@@ -94,12 +98,17 @@ pub record ThreeKinds : Type 0 where
   pub second_copy : (s : Side) (e : List ℕ) → (read s e ≡ refused 12) ↔ CopyAt e
   pub misfit : (s : Side) (e : List ℕ) → (read s e ≡ refused 11) ↔ MisfitAt e
   -- a wrong sender: 11 and 12 stay, whatever might have followed
-  pub wrong_stays : (s : Side) (e more : List ℕ) (n : ℕ) → (n ≡ 11) ⊎ (n ≡ 12) → read s e ≡ refused n → read s (e ++ more) ≡ refused n
+  pub wrong_stays :
+      (s : Side) (e more : List ℕ) (n : ℕ) → (n ≡ 11) ⊎ (n ≡ 12) → read s e ≡ refused n
+      → read s (e ++ more) ≡ refused n
   -- a cut message: what a side would accept, cut off within a parameter, is 10;
-  pub cut_within : (s : Side) (e more : List ℕ) (r : TransportParameters) → read s (e ++ more) ≡ accepted r → (Composed e → ⊥) → read s e ≡ refused 10
+  pub cut_within :
+      (s : Side) (e more : List ℕ) (r : TransportParameters) → read s (e ++ more) ≡ accepted r
+      → (Composed e → ⊥) → read s e ≡ refused 10
   -- cut off anywhere it is neither 11 nor 12: if it is refused, then with 10 or, where a value rule
   -- misses what was cut off, with 2;
   pub cut_anywhere :
-      (s : Side) (e more : List ℕ) (r : TransportParameters) (n : ℕ) → read s (e ++ more) ≡ accepted r → read s e ≡ refused n → (n ≡ 10) ⊎ (n ≡ 2)
+      (s : Side) (e more : List ℕ) (r : TransportParameters) (n : ℕ)
+      → read s (e ++ more) ≡ accepted r → read s e ≡ refused n → (n ≡ 10) ⊎ (n ≡ 2)
   -- and whole parameters are never a cut
   pub whole_uncut : (s : Side) (e : List ℕ) → Composed e → read s e ≡ refused 10 → ⊥
