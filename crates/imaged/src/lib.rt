@@ -6,6 +6,7 @@ ghost use Rattle.refusal.specs.Answer.{outcome_of};
 ghost use Rattle.record.specs.Values.{token_of, of_address};
 ghost use Rattle.version_information.specs.VersionInformation.{versions_with};
 ghost use Rattle.image.specs.Image.{part, flag_at, number_at, numbers_at, optional_at, cid_at, optional_cid_at, address_at, record_at, flags_hold, zero_if_absent, is_image, record_from, cid_from};
+ghost use Rattle.imaged.specs.ImageLaws.{ImageLaws};
 
 use catalogue::NUMBERS;
 use connection_id::ConnectionId;
@@ -218,3 +219,10 @@ pub fn cid_from(image: &[u8]) -> Result<ConnectionId, Refusal>
     }
     Ok(cid_at(image, 0))
 }
+
+/// The image of a well-formed record has 374 bytes and gives the record back; that of a connection
+/// ID does too.
+#[tactic(auto, using(crate::proofs::ImageLaws::image_laws))]
+pub fn image_laws()
+    ensures { ImageLaws }
+{}
