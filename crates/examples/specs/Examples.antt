@@ -63,13 +63,14 @@ abbrev pub Each : List Example → Type 0
 Each [] = Unit {0}
 Each (x ∷ xs) = Holds x × Each xs
 
--- the counts of a report, in the order of docs/SCOPE.md
+-- the counts of a report: tidied, unknown, restated, saved, and parameters named
 abbrev pub goes : ℕ → ℕ → ℕ → ℕ → ℕ → Counts
 goes a b c d n = record { tidied = a; skipped = b; restated = c; saved = d; named = n }
 
 -- a record with these numbers, original_dst_cid empty or absent, grease_quic_bit, min_ack_delay,
 -- version information and order, and nothing else
-unfoldable pub with : List ℕ → Bool → Bool → OptionalNumber → VersionInformation → WriteOrder → TransportParameters
+unfoldable pub with :
+    List ℕ → Bool → Bool → OptionalNumber → VersionInformation → WriteOrder → TransportParameters
 with numbers original grease delay versions order =
     record {
       numbers = numbers;
@@ -109,7 +110,9 @@ abbrev pub reversed : WriteOrder
 reversed =
     record {
       present = true;
-      places = 21 ∷ 20 ∷ 19 ∷ 18 ∷ 17 ∷ 16 ∷ 15 ∷ 14 ∷ 13 ∷ 12 ∷ 11 ∷ 10 ∷ 9 ∷ 8 ∷ 7 ∷ 6 ∷ 5 ∷ 4 ∷ 3 ∷ 2 ∷ 1 ∷ 0 ∷ [];
+      places =
+          21 ∷ 20 ∷ 19 ∷ 18 ∷ 17 ∷ 16 ∷ 15 ∷ 14 ∷ 13 ∷ 12 ∷ 11 ∷ 10 ∷ 9 ∷ 8 ∷ 7 ∷ 6 ∷ 5 ∷ 4 ∷ 3
+          ∷ 2 ∷ 1 ∷ 0 ∷ [];
     }
 
 -- every place the first
@@ -122,7 +125,8 @@ abbrev pub delayed : ℕ → List ℕ
 delayed x = 0xc0 ∷ 0x00 ∷ 0x00 ∷ 0x00 ∷ 0xff ∷ 0x04 ∷ 0xde ∷ 0x1b ∷ 0x01 ∷ x ∷ []
 
 abbrev pub addressed : ℕ → ℕ → ℕ → List ℕ
-addressed x n left = 0x0d ∷ (41 + n + left) ∷ (replicate 24 x ++ (n ∷ replicate (n + 16 + left) 0xbb))
+addressed x n left =
+    0x0d ∷ (41 + n + left) ∷ (replicate 24 x ++ (n ∷ replicate (n + 16 + left) 0xbb))
 
 -- the parameter of (b), an unknown one whose identifier and length are longer than needed, and
 -- grease_quic_bit
@@ -169,7 +173,12 @@ zero_version = replicate 4 0x00
 
 abbrev pub offering : ℕ → List ℕ → VersionInformation
 offering chosen available =
-    record { present = true; available_len = length available; chosen = chosen; available = available ++ replicate (16 - length available) 0 }
+    record {
+      present = true;
+      available_len = length available;
+      chosen = chosen;
+      available = available ++ replicate (16 - length available) 0;
+    }
 
 abbrev pub informed : VersionInformation → TransportParameters
 informed versions = with (numbers 0 65527 25) false false None versions no_order
@@ -181,44 +190,68 @@ abbrev pub retry : List ℕ → OptionalConnectionId
 retry v = record { present = true; value = cid_of v }
 
 abbrev pub seen : List ℕ → List ℕ → OptionalConnectionId → SeenConnectionIds
-seen initial original retried = record { initial_src_cid = cid_of initial; original_dst_cid = cid_of original; retry_src_cid = retried }
+seen initial original retried =
+    record {
+      initial_src_cid = cid_of initial;
+      original_dst_cid = cid_of original;
+      retry_src_cid = retried;
+    }
 
 abbrev pub too_long : ConnectionId
 too_long = record { len = 21; bytes = replicate 20 0 }
 
+-- with an ID of 21 bytes
+abbrev pub over_long : SeenConnectionIds
+over_long =
+    record {
+      initial_src_cid = cid_of c1;
+      original_dst_cid = too_long;
+      retry_src_cid = no_retry;
+    }
+
+-- sixteen versions, and a count
+abbrev pub counted : ℕ → VersionInformation
+counted n = record { present = true; available_len = n; chosen = 1; available = replicate 16 1 }
+
 unfoldable pub examples : List Example
 examples =
-    -- (a)
+    -- (a) nothing: the default record
     reading Client [] (accepted default_record)
-    ∷  -- (b)
-    reading Client (0x01 ∷ 0x04 ∷ 0x80 ∷ 0x00 ∷ 0x75 ∷ 0x30 ∷ []) (accepted (plain (numbers 30000 65527 25)))
-    ∷  -- (c)
+    ∷  -- (b) a max_idle_timeout of 30 seconds
+    reading Client (0x01 ∷ 0x04 ∷ 0x80 ∷ 0x00 ∷ 0x75 ∷ 0x30 ∷ [])
+    (accepted (plain (numbers 30000 65527 25)))
+    ∷  -- (c) the largest max_ack_delay, 2 ^ 14 - 1 milliseconds
     reading Client (0x0b ∷ 0x02 ∷ 0x7f ∷ 0xff ∷ []) (accepted (plain (numbers 0 65527 16383)))
-    ∷  -- (d)
+    ∷  -- (d) one of 2 ^ 14
     reading Client (0x0b ∷ 0x04 ∷ 0x80 ∷ 0x00 ∷ 0x40 ∷ 0x00 ∷ []) (refused 2)
-    ∷  -- (e)
+    ∷  -- (e) an active_connection_id_limit of 2, the default
     tidying Client (0x0e ∷ 0x01 ∷ 0x02 ∷ []) []
-    ∷  -- (f)
+    ∷  -- (f) one of 1
     reading Client (0x0e ∷ 0x01 ∷ 0x01 ∷ []) (refused 2)
-    ∷  -- (g)
+    ∷  -- (g) the least max_udp_payload_size, 1200
     reading Client (0x03 ∷ 0x02 ∷ 0x44 ∷ 0xb0 ∷ []) (accepted (plain (numbers 0 1200 25)))
-    ∷  -- (h)
+    ∷  -- (h) one of 1199
     reading Client (0x03 ∷ 0x02 ∷ 0x44 ∷ 0xaf ∷ []) (refused 2)
-    ∷  -- (i)
+    ∷  -- (i) a second copy
     reading Client (0x01 ∷ 0x01 ∷ 0x05 ∷ 0x01 ∷ 0x01 ∷ 0x05 ∷ []) (refused 12)
-    ∷  -- (j)
+    ∷  -- (j) a byte left over
     reading Client (0x01 ∷ 0x02 ∷ 0x05 ∷ 0x00 ∷ []) (refused 11)
-    ∷  -- (k)
+    ∷  -- (k) an unknown parameter
     reading Client (0x1b ∷ 0x03 ∷ 0xaa ∷ 0xbb ∷ 0xcc ∷ []) (accepted default_record)
-    ∷  -- (l)
-    reading Client (0x00 ∷ 0x00 ∷ []) (accepted (with (numbers 0 65527 25) true false None no_versions no_order))
+    ∷  -- (l) an empty original_dst_cid, for either side
+    reading Client (0x00 ∷ 0x00 ∷ [])
+    (accepted (with (numbers 0 65527 25) true false None no_versions no_order))
     ∷ reading Server (0x00 ∷ 0x00 ∷ []) (refused 2)
-    ∷  -- (m)
-    reading Client (0xc0 ∷ 0x00 ∷ 0x00 ∷ 0x00 ∷ 0xff ∷ 0x04 ∷ 0xde ∷ 0x1b ∷ 0x04 ∷ 0x80 ∷ 0x00 ∷ 0x61 ∷ 0xa8 ∷ [])
+    ∷  -- (m) a min_ack_delay of 25 milliseconds, which is max_ack_delay; one of a microsecond more
+    reading Client
+    (0xc0 ∷ 0x00 ∷ 0x00 ∷ 0x00 ∷ 0xff ∷ 0x04 ∷ 0xde ∷ 0x1b ∷ 0x04 ∷ 0x80 ∷ 0x00 ∷ 0x61 ∷ 0xa8 ∷ [])
     (accepted (with (numbers 0 65527 25) false false (Some 25000) no_versions no_order))
-    ∷ reading Client (0xc0 ∷ 0x00 ∷ 0x00 ∷ 0x00 ∷ 0xff ∷ 0x04 ∷ 0xde ∷ 0x1b ∷ 0x04 ∷ 0x80 ∷ 0x00 ∷ 0x61 ∷ 0xa9 ∷ []) (refused 2)
-    ∷  -- (n)
-    writing (with (numbers 30000 65527 25) false true None no_versions reversed) (0x6a ∷ 0xb2 ∷ 0x00 ∷ 0x01 ∷ 0x04 ∷ 0x80 ∷ 0x00 ∷ 0x75 ∷ 0x30 ∷ [])
+    ∷ reading Client
+    (0xc0 ∷ 0x00 ∷ 0x00 ∷ 0x00 ∷ 0xff ∷ 0x04 ∷ 0xde ∷ 0x1b ∷ 0x04 ∷ 0x80 ∷ 0x00 ∷ 0x61 ∷ 0xa9 ∷ [])
+    (refused 2)
+    ∷  -- (n) grease_quic_bit and max_idle_timeout, written in an order of their own
+    writing (with (numbers 30000 65527 25) false true None no_versions reversed)
+    (0x6a ∷ 0xb2 ∷ 0x00 ∷ 0x01 ∷ 0x04 ∷ 0x80 ∷ 0x00 ∷ 0x75 ∷ 0x30 ∷ [])
     ∷  -- and its length, in that order, before one is drawn and with one that is no permutation; a
     -- default; a number of 2 ^ 62
     measuring (with (numbers 30000 65527 25) false true None no_versions reversed) (accepted 9)
@@ -234,8 +267,10 @@ examples =
     ∷ reading Client (addressed 0 1 0) (refused 2)
     ∷ reading Client (0x1b ∷ 0x00 ∷ 0x1b ∷ 0x00 ∷ []) (accepted default_record)
     ∷  -- other orders: (b), an unknown parameter in a longer form and grease_quic_bit
-    reading Client (idle ++ (unknown ++ grease)) (accepted (with (numbers 30000 65527 25) false true None no_versions no_order))
-    ∷ reading Client (grease ++ (idle ++ unknown)) (accepted (with (numbers 30000 65527 25) false true None no_versions no_order))
+    reading Client (idle ++ (unknown ++ grease))
+    (accepted (with (numbers 30000 65527 25) false true None no_versions no_order))
+    ∷ reading Client (grease ++ (idle ++ unknown))
+    (accepted (with (numbers 30000 65527 25) false true None no_versions no_order))
     ∷  -- faults of an order: a repeat; an entry out of range before one; nothing there; an entry
     -- missing; none; one too many
     ordering (3 ∷ 1 ∷ 4 ∷ 1 ∷ 5 ∷ []) (some 3)
@@ -271,12 +306,15 @@ examples =
     authenticating Server (says 0x0f c1) (seen c1 s1 no_retry) (accepted tt)
     ∷ authenticating Client (says 0x00 s1 ++ says 0x0f s3) (seen s3 s1 no_retry) (accepted tt)
     ∷ authenticating Server (says 0x0f c1) (seen c1 s1 (retry s2)) (accepted tt)
-    ∷ authenticating Client (says 0x00 s1 ++ (says 0x0f s3 ++ says 0x10 s2)) (seen s3 s1 (retry s2)) (accepted tt)
+    ∷ authenticating Client (says 0x00 s1 ++ (says 0x0f s3 ++ says 0x10 s2)) (seen s3 s1 (retry s2))
+    (accepted tt)
     ∷  -- a Retry that the server does not know of; none, and the server knows of one; another Retry
     -- than the server's
     authenticating Client (says 0x00 s1 ++ says 0x0f s3) (seen s3 s1 (retry s2)) (refused 13)
-    ∷ authenticating Client (says 0x00 s1 ++ (says 0x0f s3 ++ says 0x10 s2)) (seen s3 s1 no_retry) (refused 14)
-    ∷ authenticating Client (says 0x00 s1 ++ (says 0x0f s3 ++ says 0x10 s2)) (seen s3 s1 (retry s3)) (refused 14)
+    ∷ authenticating Client (says 0x00 s1 ++ (says 0x0f s3 ++ says 0x10 s2)) (seen s3 s1 no_retry)
+    (refused 14)
+    ∷ authenticating Client (says 0x00 s1 ++ (says 0x0f s3 ++ says 0x10 s2)) (seen s3 s1 (retry s3))
+    (refused 14)
     ∷  -- another peer; another first packet; no ID at all, which reading accepts; an absence before
     -- a mismatch; IDs of equal bytes and zeros
     authenticating Server (says 0x0f c1) (seen s2 s1 no_retry) (refused 14)
@@ -285,7 +323,7 @@ examples =
     ∷ authenticating Client (says 0x0f s2) (seen s3 s1 no_retry) (refused 13)
     ∷ authenticating Server (says 0x0f (7 ∷ 0 ∷ [])) (seen (7 ∷ []) s1 no_retry) (refused 14)
     ∷  -- an ID of over 20 bytes that a server does not look at
-    authenticating Server (says 0x0f c1) (record { initial_src_cid = cid_of c1; original_dst_cid = too_long; retry_src_cid = no_retry }) (refused 7)
+    authenticating Server (says 0x0f c1) over_long (refused 7)
     ∷  -- where the bytes go: nothing; an unknown parameter; a default; an identifier, a length and
     -- a number in two bytes each; such a default, which is counted whole; an unknown one behind
     -- (b); a second copy
@@ -298,7 +336,8 @@ examples =
     ∷ reporting Client (0x01 ∷ 0x01 ∷ 0x05 ∷ 0x01 ∷ 0x01 ∷ 0x05 ∷ []) (refused 12)
     ∷  -- version information: what Chromium sends; a chosen version that is not available, which a
     -- client takes; no available ones
-    reading Server (says 0x11 (v1 ++ (v1 ++ reserved_version))) (accepted (informed (offering 1 (1 ∷ 0xbada7aba ∷ []))))
+    reading Server (says 0x11 (v1 ++ (v1 ++ reserved_version)))
+    (accepted (informed (offering 1 (1 ∷ 0xbada7aba ∷ []))))
     ∷ reading Server (says 0x11 (v1 ++ v2)) (refused 2)
     ∷ reading Client (says 0x11 (v1 ++ v2)) (accepted (informed (offering 1 (0x6b3343cf ∷ []))))
     ∷ reading Server (says 0x11 v1) (refused 2)
@@ -314,13 +353,15 @@ examples =
     ∷ reading Client (says 0x11 v1 ++ says 0x11 v1) (refused 12)
     ∷  -- 16 available ones: 68 bytes behind a length of two; 15: 64 bytes; 14: 60, and a length of
     -- one
-    reading Client (0x11 ∷ 0x40 ∷ 0x44 ∷ replicate 68 0x01) (accepted (informed (offering 0x01010101 (replicate 16 0x01010101))))
-    ∷ writing (informed (offering 0x01010101 (replicate 16 0x01010101))) (0x11 ∷ 0x40 ∷ 0x44 ∷ replicate 68 0x01)
+    reading Client (0x11 ∷ 0x40 ∷ 0x44 ∷ replicate 68 0x01)
+    (accepted (informed (offering 0x01010101 (replicate 16 0x01010101))))
+    ∷ writing (informed (offering 0x01010101 (replicate 16 0x01010101)))
+    (0x11 ∷ 0x40 ∷ 0x44 ∷ replicate 68 0x01)
     ∷ measuring (informed (offering 1 (replicate 15 1))) (accepted 67)
     ∷ measuring (informed (offering 1 (replicate 14 1))) (accepted 62)
     ∷  -- a count of 17; a version in an entry that is not used
-    measuring (informed (record { present = true; available_len = 17; chosen = 1; available = replicate 16 1 })) (refused 7)
-    ∷ measuring (informed (record { present = true; available_len = 15; chosen = 1; available = replicate 16 1 })) (refused 7)
+    measuring (informed (counted 17)) (refused 7)
+    ∷ measuring (informed (counted 15)) (refused 7)
     ∷  -- in longer forms, tidied; and where the bytes go
     tidying Client (0x40 ∷ 0x11 ∷ 0x40 ∷ 0x04 ∷ v1) (says 0x11 v1)
     ∷ reporting Client (0x40 ∷ 0x11 ∷ 0x40 ∷ 0x04 ∷ v1) (accepted (goes 6 0 0 2 1))
