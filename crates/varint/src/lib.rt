@@ -11,6 +11,8 @@ ghost use Rattle.refusal.specs.Answer.{outcome_of};
 use refusal::Refusal;
 use words::bytes_at;
 
+/// A number for the wire. One of 2^62 or more has no form there: size and writing refuse it with
+/// `VarIntBoundsExceeded`, and so does `try_from`.
 #[derive(Clone, Copy, Debug, PartialEq, Eq)]
 pub struct VarInt(pub u64);
 
@@ -19,7 +21,9 @@ pub struct VarInt(pub u64);
 #[derive(Clone, Copy, Debug, PartialEq, Eq)]
 pub struct Decoded {
     pub value: u64,
+    /// in bytes
     pub count: usize,
+    /// in bytes
     pub saved: usize,
 }
 
@@ -72,7 +76,8 @@ impl VarInt {
         Ok(size_of(x))
     }
 
-    /// The number at the front of `src`. The one-byte form stands apart: most numbers are short.
+    /// The number at the front of `src`; `UnexpectedEnd` if it is cut off. The one-byte form stands
+    /// apart: most numbers are short.
     #[tactic(auto, using(crate::proofs::Bytes::read_none))]
     pub fn decode(src: &[u8]) -> Result<Decoded, Refusal>
         ensures { outcome_of result ≡ read_number src.now }
@@ -108,7 +113,7 @@ impl VarInt {
         wide_of(u64::from_be_bytes(bytes_at(src, 0)))
     }
 
-    /// Writes the shortest form to the front of `out`.
+    /// Writes the shortest form to the front of `out`; `BufferTooShort` if there is no room.
     #[tactic(auto, using(refusal::proofs::Laws::raised, crate::proofs::Laws::write_refused, crate::proofs::Laws::write_sized), unfolding(crate::specs::Number::write_number, refusal::specs::Outcome::store))]
     pub fn encode(self, out: &mut [u8]) -> Result<usize, Refusal>
         ensures { (outcome_of result, out.new) ≡ write_number self.0 out.old }

@@ -16,15 +16,15 @@ use Rattle.writer.proofs.write.Goals as goal
 pub put-requires : goal.put-requires
 unfolding order_of
 put-requires c =
-    let well : well_formed c.args.r ≡ true = grind arith in
-    let orderly : permutation (order_of c.args.r.write_order) ≡ true = grind arith in
-    ready c.args.r well _ (replicate (max_extension + 32) 0) _ _ (omega arith) orderly c.catalogue-n.ensures (omega arith)
+    let well : well_formed c.args.r.now ≡ true = grind arith in
+    let orderly : permutation (order_of c.args.r.now.write_order) ≡ true = grind arith in
+    ready c.args.r.now well _ (replicate (max_extension + 32) 0) _ _ (omega arith) orderly c.catalogue-n.ensures (omega arith)
 
 pub returns : goal.returns
 unfolding order_of
 returns c =
     let a = c.args in
-    let w : well_formed c.args.r ≡ true = grind arith in
-    let p : permutation (order_of c.args.r.write_order) ≡ true = grind arith in
-    let d = due a.r w _ (replicate (max_extension + 32) 0) _ _ (omega arith) p c.catalogue-n.ensures (omega arith) in
-    c.put.ensures ∙ ap (λ (bs : List ℕ). store bs a.out.now) d ∙ write_stored a.r a.out.now w p
+    let w : well_formed c.args.r.now ≡ true = grind arith in
+    let p : permutation (order_of c.args.r.now.write_order) ≡ true = grind arith in
+    let d = due a.r.now w _ (replicate (max_extension + 32) 0) _ _ (omega arith) p c.catalogue-n.ensures (omega arith) in
+    c.put.ensures ∙ ap (λ (bs : List ℕ). store bs a.out.now) d ∙ write_stored a.r.now a.out.now w p
