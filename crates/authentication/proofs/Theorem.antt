@@ -1,5 +1,5 @@
--- Request 07: what the check says. What a record is accepted with, what is looked at, and legal or
--- not; then the theorem. Assumes nothing.
+-- What the check of connection IDs says. What a record is accepted with, what is looked at, and
+-- legal or not; then the theorem. Assumes nothing.
 use Prim.Native.Nat.{ℕ}
 use mathlib.Core.Path.{◌≡◌, refl, ap₂, sym, ◌∙◌}
 use mathlib.Core.List.{List, [], ◌∷◌}

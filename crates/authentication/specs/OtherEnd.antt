@@ -1,5 +1,5 @@
--- Request 07: what the check says, of IDs as the bytes that packets carry, and for each side by
--- itself.
+-- What the check of connection IDs says, of IDs as the bytes that packets carry, and for each side
+-- by itself (RFC 9000 section 7.3).
 use Rattle.std.specs.Prelude.{ℕ, ◌≤◌, ◌≡◌, ◌↔◌, ◌⊎◌, List, [], true, false, length}
 use Rattle.refusal.specs.Outcome.{Outcome, accepted, refused}
 use Rattle.connection_id.specs.declared.ConnectionId.{ConnectionId}

@@ -165,7 +165,7 @@ record_from s = pick (is_image s) (accepted (record_at s)) (refused 7)
 unfoldable pub cid_from : List ℕ → Outcome ConnectionId
 cid_from s = pick (eqb (length s) cid_size) (accepted (cid_at 0 s)) (refused 7)
 
--- what the types of a record say: how long its arrays are
+-- how the code goes about it: what the types of a record say, how long its arrays are
 pub record Sized (r : TransportParameters) : Type 0 where
   pub numbers : length r.numbers ≡ 11
   pub original : length r.original_dst_cid.value.bytes ≡ 20

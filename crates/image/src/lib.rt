@@ -148,8 +148,7 @@ fn put_versions(v: &VersionInformation, out: &mut [u8; RECORD_SIZE])
 #[inline(always)]
 fn tell_sizes(r: TransportParameters)
     ensures { Sized r }
-{
-}
+{}
 
 /// Stores the image of a record at the front of `out`; `BufferTooShort` if there is no room.
 #[tactic(auto, using(crate::proofs::Stores::image_size, crate::proofs::Stores::no_room))]

@@ -1,4 +1,4 @@
-// Replays recorded answers, quinn's but where document 01 or 02 gives another: standard input holds
+// Replays recorded answers, quinn's but where docs/SCOPE.md gives another: standard input holds
 // the list that `oracle/run record` wrote, and oracle/src/list.rs says how an entry is laid out.
 // Each call goes through the C interface's functions; compared are refusal, number, bytes stored
 // and bytes left alone.

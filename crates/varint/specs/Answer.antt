@@ -1,4 +1,5 @@
--- The code's answer in the papers' terms.
+-- What converting a number gives, the code's answer in the definitions' terms: the number, or the
+-- number of the refusal.
 use Rattle.std.specs.Prelude.{ℕ, Result as Answer, Ok, Err}
 use Rattle.refusal.specs.Outcome.{Outcome, accepted, refused}
 use Rattle.refusal.specs.Number.{number_of}

@@ -1,7 +1,7 @@
 // Variable-length integers (RFC 9000 section 16): `VarInt` of quinn's varint.rs.
 #![tactic(auto)]
 
-ghost use Rattle.std.specs.Prelude.{◌≡◌, ◌/◌, ◌^◌, ◌<◌, ◌≤◌, length, get_or};
+ghost use Rattle.std.specs.Prelude.{◌≡◌, ◌/◌, ◌%◌, ◌^◌, ◌<◌, ◌≤◌, length, get_or};
 ghost use Rattle.refusal.specs.Outcome.{accepted, front};
 ghost use Rattle.words.specs.Words.{bytes_of};
 ghost use Rattle.varint.specs.Number.{number_bytes, with_saved, read_number, read_wide, write_number, convert_number, size_number};
@@ -155,6 +155,13 @@ fn with_saved(value: u64, count: usize) -> Decoded
     }
 }
 
+// The bits behind the tag.
+fn untagged(word: u64) -> u64
+    ensures { result ≡ word % 2 ^ 62 }
+{
+    word & VarInt::MAX.0
+}
+
 // The number at the front of eight bytes, which make `word`.
 #[tactic(auto, using(crate::proofs::Word::bits_range, crate::proofs::Word::word_room))]
 fn wide_of(word: u64) -> Decoded
@@ -162,7 +169,7 @@ fn wide_of(word: u64) -> Decoded
 {
     let tag = (word >> 62) as u32;
     let bits = 8u32 << tag;
-    with_saved((word & VarInt::MAX.0) >> (64 - bits), 1usize << tag)
+    with_saved(untagged(word) >> (64 - bits), 1usize << tag)
 }
 
 // A number of two, four or eight bytes, as `tag` of the first byte says: a `match`, since const
