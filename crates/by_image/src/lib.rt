@@ -11,8 +11,8 @@ use record::Optional;
 use refusal::Refusal;
 use rules::Side;
 
-/// Reads an extension, and stores the record's image; `BufferTooShort` if there is no room for it. A
-/// match: by `?` the record is copied more often.
+/// Reads an extension, and stores the record's image; `BufferTooShort` if there is no room for it.
+/// A match: by `?` the record is copied more often.
 #[tactic(auto, unfolding(crate::specs::ByImage::image_read, crate::specs::ByImage::record_store))]
 pub fn read(side: Side, src: &[u8], record: &mut [u8]) -> Result<usize, Refusal>
     ensures { (outcome_of result, «record».new) ≡ image_read side src.now «record».old }

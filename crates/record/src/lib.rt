@@ -92,8 +92,9 @@ pub struct WriteOrder {
 }
 
 /// What an extension says, and how it is written. The fields have quinn's names, and hold what the
-/// parameters say (RFC 9000 section 18.2), in their units. No `==`: two records say the same if they are
-/// equal without order and reserved parameter (`bare`), and then they are tidied to the same bytes.
+/// parameters say (RFC 9000 section 18.2), in their units. No `==`: two records say the same if
+/// they are equal without order and reserved parameter (`bare`), and then they are tidied to the
+/// same bytes.
 #[derive(Clone, Copy, Debug)]
 pub struct TransportParameters {
     /// places 0 to 10 of the catalogue

@@ -20,6 +20,7 @@ pub struct VarInt(pub u64);
 /// shortest form would have saved.
 #[derive(Clone, Copy, Debug, PartialEq, Eq)]
 pub struct Decoded {
+    /// the number
     pub value: u64,
     /// in bytes
     pub count: usize,

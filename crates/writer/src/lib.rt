@@ -287,8 +287,8 @@ fn is_order(w: &WriteOrder) -> bool
 }
 
 /// Writes the record to the front of `out`, in its order: `IllFormed`, then `InvalidOrder`, then
-/// `BufferTooShort`. It is laid in an array first, so that the count is known before a byte of `out`
-/// is touched.
+/// `BufferTooShort`. It is laid in an array first, so that the count is known before a byte of
+/// `out` is touched.
 #[tactic(auto, using(crate::proofs::Answers::write_ill, crate::proofs::Answers::write_invalid, words::proofs::Laws::zeros_replicate, order::proofs::Orders::in_catalogue, crate::proofs::Extension::longest, crate::proofs::Places::in_catalogue_order), unfolding(crate::specs::Writing::order_of))]
 pub fn write(r: &TransportParameters, out: &mut [u8]) -> Result<usize, Refusal>
     ensures { (outcome_of result, out.new) ≡ write r.now out.old }
