@@ -123,8 +123,8 @@ pub extern "C" fn yuthpram_tidy(side: u8, src: &[u8], out: &mut [u8], count: &mu
     yuthpram::yuthpram_tidy(side, src, out, count)
 }
 
-/// Where the bytes of an extension go: five counts, in one struct. Refuses as `yuthpram_read`, but
-/// never 5.
+/// Where the bytes of an extension go: five counts, in one struct, whose fields stand in the C
+/// header's order: no contract sees the layout. Refuses as `yuthpram_read`, but never 5.
 #[unsafe(no_mangle)]
 pub extern "C" fn yuthpram_report(side: u8, src: &[u8], counts: &mut Counts) -> u8
     ensures { (result, counts.new) ≡ reported side src.now counts.old }
