@@ -1,4 +1,6 @@
--- The value of a preferred address (RFC 9000 section 18.2, figure 22).
+-- How the code goes about it: nothing to believe, since the contract of `writer::write` is an
+-- equation with `write` (writer/specs/Writing.antt). The value of a preferred address (RFC 9000
+-- section 18.2, figure 22).
 use Rattle.std.specs.Prelude.{ℕ, List, ◌∷◌, ◌++◌}
 use Rattle.connection_id.specs.ConnectionId.{cid_bytes}
 use Rattle.record.specs.declared.PreferredAddress.{PreferredAddress}

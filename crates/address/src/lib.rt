@@ -14,8 +14,7 @@ use record::{PreferredAddress, SocketAddr};
 use wire::put_bytes;
 
 /// Stores the parameter, if it is present and its ID is well formed, or nothing where there is no
-/// room. Gives its byte count, 0 for nothing, as the writers of crate wire do. The address is taken
-/// by value: by reference two goals stayed open.
+/// room. Gives its byte count, 0 for nothing, as the writers of crate wire do.
 #[tactic(auto, using(connection_id::proofs::Laws::cid_facts, crate::proofs::Address::address_off, crate::proofs::Address::address_none, crate::proofs::Address::address_whole), unfolding(catalogue::specs::Catalogue::id_at, catalogue::specs::Catalogue::ids))]
 pub fn put_address(a: PreferredAddress, out: &mut [u8]) -> usize
     ensures { (result, out.new)
@@ -62,7 +61,8 @@ fn put_cid_and_token(a: &PreferredAddress, out: &mut [u8]) -> usize
         × (17 + a.now.connection_id.len ≤ length out.old) }
     ensures { Wrote (17 + a.now.connection_id.len)
         (a.now.connection_id.len ∷
-        (cid_bytes a.now.connection_id ++ a.now.stateless_reset_token.bytes)) out.old result out.new }
+        (cid_bytes a.now.connection_id ++ a.now.stateless_reset_token.bytes))
+        out.old result out.new }
 {
     let at = a.connection_id.encode_long(out).unwrap();
     at + put_bytes(&a.stateless_reset_token.bytes, &mut out[at..])

@@ -80,7 +80,8 @@ fn as_seen(side: Side, r: &TransportParameters, seen: &SeenConnectionIds) -> boo
 }
 
 /// Whether the peer whose record this is, is the one that the packets came from, and there was a
-/// Retry exactly if it says so.
+/// Retry exactly if it says so: `IllFormed`, then `CidAbsent`, then `CidMismatch`. The side is
+/// ours.
 #[tactic(auto, unfolding(crate::specs::Authentication::authenticate_cids))]
 pub fn authenticate_cids(
     side: Side,

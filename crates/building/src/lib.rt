@@ -22,17 +22,25 @@ use varint::VarInt;
 /// the generator of connection IDs.
 #[derive(Clone, Copy, Debug, PartialEq, Eq)]
 pub struct Settings {
+    /// streams, as initial_max_streams_bidi
     pub max_concurrent_bidi_streams: u64,
+    /// streams, as initial_max_streams_uni
     pub max_concurrent_uni_streams: u64,
+    /// in bytes, as initial_max_data
     pub receive_window: u64,
+    /// in bytes, as the three initial_max_stream_data
     pub stream_receive_window: u64,
     /// in milliseconds
     pub max_idle_timeout: Option<u64>,
+    /// in bytes
     pub max_udp_payload_size: u64,
+    /// whether grease_quic_bit is sent
     pub grease_quic_bit: bool,
+    /// in bytes; sent as max_datagram_frame_size, 65,535 at most
     pub datagram_receive_buffer_size: Option<u64>,
-    /// the length of the IDs that are generated
+    /// the length of the IDs that are generated, in bytes
     pub cid_len: usize,
+    /// who builds the record, to send it
     pub side: Side,
     /// whether a server allows migration
     pub migration: bool,
@@ -191,7 +199,8 @@ fn record_of(
 }
 
 /// The record of these settings and this connection ID, with the reserved parameter and the order
-/// drawn.
+/// drawn: `VarIntBoundsExceeded` for a setting, `IllFormed` for the ID, `InvalidDraw`, then
+/// `InvalidOrder`.
 #[tactic(auto, using(refusal::proofs::Laws::raised), unfolding(crate::specs::Building::build))]
 pub fn new(
     settings: Settings,

@@ -1,4 +1,5 @@
 // The operations on a record by its image: what the C interface and the command-line tool call.
+// Bytes that are no image are `IllFormed`, before anything else is looked at.
 #![tactic(auto)]
 
 ghost use Rattle.std.specs.Prelude.{◌≡◌};
@@ -10,8 +11,8 @@ use record::Optional;
 use refusal::Refusal;
 use rules::Side;
 
-/// Reads an extension, and stores the record's image. A match: by `?` the record is copied more
-/// often, and reading a small one through C took 1,171 instructions and not 965.
+/// Reads an extension, and stores the record's image; `BufferTooShort` if there is no room for it.
+/// A match: by `?` the record is copied more often.
 #[tactic(auto, unfolding(crate::specs::ByImage::image_read, crate::specs::ByImage::record_store))]
 pub fn read(side: Side, src: &[u8], record: &mut [u8]) -> Result<usize, Refusal>
     ensures { (outcome_of result, «record».new) ≡ image_read side src.now «record».old }
@@ -22,6 +23,7 @@ pub fn read(side: Side, src: &[u8], record: &mut [u8]) -> Result<usize, Refusal>
     }
 }
 
+/// Checks a record for the side that is to read it, as `rules::check`.
 #[tactic(auto, unfolding(crate::specs::ByImage::image_check))]
 pub fn check(record: &[u8], side: Side) -> Result<(), Refusal>
     ensures { outcome_of result ≡ image_check «record».now side }
@@ -30,6 +32,7 @@ pub fn check(record: &[u8], side: Side) -> Result<(), Refusal>
     rules::check(side, &r)
 }
 
+/// Writes a record to the front of `out`, as `writer::write`.
 #[tactic(auto, unfolding(crate::specs::ByImage::image_write))]
 pub fn write(record: &[u8], out: &mut [u8]) -> Result<usize, Refusal>
     ensures { (outcome_of result, out.new) ≡ image_write «record».now out.old }
@@ -38,6 +41,7 @@ pub fn write(record: &[u8], out: &mut [u8]) -> Result<usize, Refusal>
     writer::write(&r, out)
 }
 
+/// How many bytes writing a record stores, as `length::length`.
 #[tactic(auto, unfolding(crate::specs::ByImage::image_length))]
 pub fn length(record: &[u8]) -> Result<usize, Refusal>
     ensures { outcome_of result ≡ image_length «record».now }
@@ -46,6 +50,8 @@ pub fn length(record: &[u8]) -> Result<usize, Refusal>
     length::length(&r)
 }
 
+/// Whether 0-RTT may go on with a record, given the one remembered, as
+/// `resumption::validate_resumption_from`.
 #[tactic(auto, unfolding(crate::specs::ByImage::image_resume, crate::specs::ByImage::resume_from))]
 pub fn validate_resumption_from(record: &[u8], cached: &[u8]) -> Result<(), Refusal>
     ensures { outcome_of result ≡ image_resume «record».now cached.now }
@@ -79,6 +85,8 @@ fn seen_from(
     })
 }
 
+/// Whether the peer whose record this is, is the one that packets came from, as
+/// `authentication::authenticate_cids`.
 #[tactic(auto, unfolding(crate::specs::ByImage::image_authenticate))]
 pub fn authenticate_cids(
     side: Side,

@@ -31,7 +31,7 @@ impl ConnectionId {
         ConnectionId::default()
     }
 
-    /// The ID of these bytes, of which there are at most 20.
+    /// The ID of these bytes; `IllFormed` if there are more than 20.
     #[tactic(auto, using(std::proofs::lemmas::Bool::Decides::nat_tests), unfolding(crate::specs::ConnectionId::make_cid))]
     pub fn new(bytes: &[u8]) -> Result<ConnectionId, Refusal>
         ensures { outcome_of result ≡ make_cid bytes.now }
@@ -60,7 +60,8 @@ impl ConnectionId {
         self == other
     }
 
-    /// The ID behind the length byte at the front of `src`.
+    /// The ID behind the length byte at the front of `src`, and the byte count of both; `Malformed`
+    /// if it is too long or cut off.
     #[tactic(auto, using(crate::proofs::Answers::read_none, crate::proofs::Answers::read_long, crate::proofs::Answers::read_short, crate::proofs::Answers::read_whole))]
     pub fn decode_long(src: &[u8]) -> Result<(ConnectionId, usize), Refusal>
         ensures { outcome_of result ≡ read_cid src.now }
@@ -79,7 +80,8 @@ impl ConnectionId {
         Ok((cid_of(&src[1..end]), end))
     }
 
-    /// Writes the length byte and the ID to the front of `out`.
+    /// Writes the length byte and the ID to the front of `out`: `IllFormed` for an ID that is not
+    /// well formed, then `BufferTooShort`.
     #[tactic(auto, using(crate::proofs::Laws::formed_within, crate::proofs::Answers::write_ill, crate::proofs::Answers::write_short, crate::proofs::Answers::write_whole))]
     pub fn encode_long(self, out: &mut [u8]) -> Result<usize, Refusal>
         ensures { (outcome_of result, out.new) ≡ write_cid self out.old }

@@ -18,7 +18,7 @@ use Rattle.words.proofs.Big.{length_bytes_of}
 use Rattle.version_information.specs.VersionInformation.{all_bytes}
 use Rattle.record.specs.declared.TransportParameters.{TransportParameters}
 use Rattle.record.specs.Record.{least}
-use Rattle.image.specs.Image.{joined_parts, flag_byte, eight_bytes, numbers_image, front_parts, id_parts, address_parts, rest_parts, versions_parts, parts, image_of}
+use Rattle.image.specs.Image.{joined_parts, flag_byte, eight_bytes, numbers_image, front_parts, id_parts, address_parts, rest_parts, versions_parts, parts, image_of, Sized}
 use Rattle.words.specs.Words.{numbers_bytes}
 use Rattle.words.proofs.Stores.{stored_then}
 use Rattle.words.proofs.Numbers.{numbers_size, numbers_more}
@@ -97,21 +97,6 @@ room_front bs out ys n l h e =
     let long : length (take n out) ≡ n = length-take-le n out h in
     let none : drop (length bs) (take n out) ≡ [] = drop_all (length bs) (take n out) (omega arith) in
     rw (le-leb (length bs) (length out) (omega arith), e, stored bs (take n out) (omega arith), none, append-nil bs, l)
-
--- THE RECORD, of arrays as long as their types say
-pub record Sized (r : TransportParameters) : Type 0 where
-  pub numbers : length r.numbers ≡ 11
-  pub original : length r.original_dst_cid.value.bytes ≡ 20
-  pub initial : length r.initial_src_cid.value.bytes ≡ 20
-  pub retry : length r.retry_src_cid.value.bytes ≡ 20
-  pub token : length r.stateless_reset_token.value.bytes ≡ 16
-  pub v4 : length r.preferred_address.address_v4.ip ≡ 4
-  pub v6 : length r.preferred_address.address_v6.ip ≡ 16
-  pub id : length r.preferred_address.connection_id.bytes ≡ 20
-  pub reset : length r.preferred_address.stateless_reset_token.bytes ≡ 16
-  pub payload : length r.grease_transport_parameter.payload ≡ 16
-  pub order : length r.write_order.places ≡ 22
-  pub versions : length r.version_information.available ≡ 16
 
 -- up to the connection IDs, up to the address, the address, the reserved parameter and the order,
 -- and version information

@@ -1,7 +1,7 @@
 -- The images of records and connection IDs, in 374 and 21 bytes: the form in which the C interface
 -- passes them. Numbers have the high byte first, a flag is 0 or 1, and what is absent is all zero.
 -- First what an image is made of, then what stands at its places.
-use Rattle.std.specs.Prelude.{ℕ, ◌+◌, List, [], ◌∷◌, ◌++◌, Bool, ◌||◌, length, get_or, take, drop, leb, eqb}
+use Rattle.std.specs.Prelude.{ℕ, ◌+◌, ◌≡◌, List, [], ◌∷◌, ◌++◌, Bool, ◌||◌, length, get_or, take, drop, leb, eqb}
 use Rattle.refusal.specs.Outcome.{Outcome, accepted, refused, pick, all}
 use Rattle.words.specs.Words.{every, value_from, bytes_of, numbers_bytes, numbers_of}
 use Rattle.connection_id.specs.declared.ConnectionId.{ConnectionId}
@@ -164,3 +164,18 @@ record_from s = pick (is_image s) (accepted (record_at s)) (refused 7)
 -- the connection ID of an image: 7 for another length
 unfoldable pub cid_from : List ℕ → Outcome ConnectionId
 cid_from s = pick (eqb (length s) cid_size) (accepted (cid_at 0 s)) (refused 7)
+
+-- how the code goes about it: what the types of a record say, how long its arrays are
+pub record Sized (r : TransportParameters) : Type 0 where
+  pub numbers : length r.numbers ≡ 11
+  pub original : length r.original_dst_cid.value.bytes ≡ 20
+  pub initial : length r.initial_src_cid.value.bytes ≡ 20
+  pub retry : length r.retry_src_cid.value.bytes ≡ 20
+  pub token : length r.stateless_reset_token.value.bytes ≡ 16
+  pub v4 : length r.preferred_address.address_v4.ip ≡ 4
+  pub v6 : length r.preferred_address.address_v6.ip ≡ 16
+  pub id : length r.preferred_address.connection_id.bytes ≡ 20
+  pub reset : length r.preferred_address.stateless_reset_token.bytes ≡ 16
+  pub payload : length r.grease_transport_parameter.payload ≡ 16
+  pub order : length r.write_order.places ≡ 22
+  pub versions : length r.version_information.available ≡ 16

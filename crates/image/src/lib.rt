@@ -7,7 +7,7 @@ ghost use Rattle.std.proofs.lemmas.List.Edits.{sets};
 ghost use Rattle.refusal.specs.Answer.{outcome_of};
 ghost use Rattle.refusal.specs.Outcome.{store};
 ghost use Rattle.record.specs.Values.{of_address};
-ghost use Rattle.image.specs.Image.{numbers_image, cid_image, optional_parts, optional_cid_parts, family_parts, address_parts, joined_parts, front_parts, id_parts, rest_parts, versions_parts, image_of};
+ghost use Rattle.image.specs.Image.{numbers_image, cid_image, optional_parts, optional_cid_parts, family_parts, address_parts, joined_parts, front_parts, id_parts, rest_parts, versions_parts, image_of, Sized};
 
 use catalogue::NUMBERS;
 use connection_id::ConnectionId;
@@ -15,14 +15,16 @@ use record::{Optional, PreferredAddress, SocketAddr, TransportParameters};
 use refusal::Refusal;
 use version_information::VersionInformation;
 
-/// The sizes of the images, in bytes.
+/// How many bytes the image of a record has.
 pub const RECORD_SIZE: usize = 374;
 
+/// How many bytes the image of a connection ID has.
 pub const CID_SIZE: usize = 21;
 
-// STORING AN IMAGE, at a place where there is room. Arrays are passed by value: so the compiler
+// Storing an image, at a place where there is room. Arrays are passed by value: so the compiler
 // knows that none lies in `out`. `at` and `out` stand apart, as in crate imaged: a struct of both
 // would be made at each call.
+
 fn put_array<const N: usize>(bytes: [u8; N], at: usize, out: &mut [u8])
     requires { at + N ≤ length out.old }
     ensures { out.new ≡ sets out.old at bytes.entry }
@@ -142,11 +144,18 @@ fn put_versions(v: &VersionInformation, out: &mut [u8; RECORD_SIZE])
     put_behind(v.available_len, v.to_bytes(), 305, out);
 }
 
-/// Stores the image of a record at the front of `out`.
+// How long a record's arrays are, as their types say: behind a reference a proof does not see it.
+#[inline(always)]
+fn tell_sizes(r: TransportParameters)
+    ensures { Sized r }
+{}
+
+/// Stores the image of a record at the front of `out`; `BufferTooShort` if there is no room.
 #[tactic(auto, using(crate::proofs::Stores::image_size, crate::proofs::Stores::no_room))]
 pub fn image_to(r: &TransportParameters, out: &mut [u8]) -> Result<usize, Refusal>
     ensures { (outcome_of result, out.new) ≡ store (image_of r.now) out.old }
 {
+    tell_sizes(*r);
     let Some(image) = out.first_chunk_mut() else {
         return Err(Refusal::BufferTooShort);
     };
@@ -158,7 +167,7 @@ pub fn image_to(r: &TransportParameters, out: &mut [u8]) -> Result<usize, Refusa
     Ok(RECORD_SIZE)
 }
 
-/// Stores the image of a connection ID at the front of `out`.
+/// Stores the image of a connection ID at the front of `out`; `BufferTooShort` if there is no room.
 #[tactic(auto, using(crate::proofs::Stores::no_room, crate::proofs::Stores::room))]
 pub fn cid_to(c: ConnectionId, out: &mut [u8]) -> Result<usize, Refusal>
     ensures { (outcome_of result, out.new) ≡ store (cid_image c) out.old }

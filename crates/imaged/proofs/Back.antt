@@ -29,8 +29,8 @@ use Rattle.std.specs.Prelude.{None, Some}
 use Rattle.record.specs.Optional.{OptionalConnectionId}
 use Rattle.record.specs.Values.{Family, of_v4, of_v6}
 use Rattle.record.specs.Record.{is_present, least, well_formed, formed_optional, formed_optional_cid, formed_token, formed_optional_token, formed_family, formed_address, formed_reserved, formed_order}
-use Rattle.image.specs.Image.{part, flag_at, flag_byte, eight_bytes, numbers_at, optional_at, cid_image, cid_at, optional_cid_at, address_at, joined_parts, front_parts, id_parts, address_parts, rest_parts, versions_parts, parts, image_of, record_at, flag_places, flags_hold, zero_if_absent, is_image, record_from, cid_from}
-use Rattle.image.proofs.Stores.{sizes, Sized, parts_sizes, image_size}
+use Rattle.image.specs.Image.{part, flag_at, flag_byte, eight_bytes, numbers_at, optional_at, cid_image, cid_at, optional_cid_at, address_at, joined_parts, front_parts, id_parts, address_parts, rest_parts, versions_parts, parts, image_of, record_at, flag_places, flags_hold, zero_if_absent, is_image, record_from, cid_from, Sized}
+use Rattle.image.proofs.Stores.{sizes, parts_sizes, image_size}
 
 -- A PART, by its number: where it begins, and that it stands there
 abbrev before : ℕ → List ℕ → ℕ

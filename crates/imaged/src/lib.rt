@@ -131,7 +131,8 @@ fn address_at(s: &[u8; RECORD_SIZE]) -> PreferredAddress
 }
 
 fn versions_at(s: &[u8; RECORD_SIZE]) -> VersionInformation
-    ensures { result ≡ versions_with (flag_at 304 s.now) (get_or s.now 305 0) (part 306 68 s.now) }
+    ensures { result
+        ≡ versions_with (flag_at 304 s.now) (get_or s.now 305 0) (part 306 68 s.now) }
 {
     VersionInformation::from_bytes(flag_at(s, 304), s[305], &bytes_at(s, 306))
 }
@@ -195,7 +196,7 @@ fn is_image(s: &[u8; RECORD_SIZE]) -> bool
     flags_hold(s) & zero_if_absent(s, 90) & zero_if_absent(s, 99)
 }
 
-/// The record of an image. What is carried over need not be well formed.
+/// The record of an image, which need not be well formed; `IllFormed` for what is no image.
 #[tactic(auto, using(crate::proofs::Places::image_long), unfolding(image::specs::Image::record_from))]
 pub fn record_from(image: &[u8]) -> Result<TransportParameters, Refusal>
     ensures { outcome_of result ≡ record_from image.now }
@@ -209,7 +210,7 @@ pub fn record_from(image: &[u8]) -> Result<TransportParameters, Refusal>
     Ok(record_at(image))
 }
 
-/// The connection ID of an image. It need not be well formed.
+/// The connection ID of an image, which need not be well formed; `IllFormed` for what is no image.
 #[tactic(auto, unfolding(image::specs::Image::cid_from))]
 pub fn cid_from(image: &[u8]) -> Result<ConnectionId, Refusal>
     ensures { outcome_of result ≡ cid_from image.now }

@@ -1,4 +1,6 @@
--- Parameters laid at the front of a buffer, with others behind them that do not count.
+-- How the code goes about it: nothing to believe, since the contract of `writer::write` is an
+-- equation with `write` (writer/specs/Writing.antt). Parameters laid at the front of a buffer, with
+-- bytes behind them that do not count.
 use Rattle.std.specs.Prelude.{ℕ, ◌+◌, ◌-◌, List, [], ◌++◌, Bool, ◌&&◌, length, take, drop, replicate, ltb, leb}
 use Rattle.refusal.specs.Outcome.{pick, front}
 use Rattle.varint.specs.Number.{bound, number_bytes}

@@ -1,4 +1,6 @@
--- How long the parameters of a record are, from the lengths of their values alone.
+-- How the code goes about it: nothing to believe, since the contract of `length::length` is an
+-- equation with `length_of` (writer/specs/Writing.antt). How long the parameters of a record are,
+-- from the lengths of their values alone.
 use Rattle.std.specs.Prelude.{ℕ, ◌+◌, ◌*◌, List, Bool, not, length, get_or, eqb}
 use Rattle.refusal.specs.Outcome.{pick}
 use Rattle.varint.specs.Number.{number_bytes}

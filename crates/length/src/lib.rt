@@ -74,8 +74,7 @@ fn versions_length(v: &VersionInformation) -> u32
 }
 
 // Those of places 0 to 10, which hold numbers: a default is not due. By place, since three tables
-// go by it, and no chain that ends in `sum`: tried over places and over an array made by `from_fn`,
-// the proof that the sum fits did not close.
+// go by it.
 #[tactic(auto, using(catalogue::proofs::Sums::sum_more, crate::proofs::Lengths::due_or_none), unfolding(catalogue::specs::Sum::sum, crate::specs::Length::number_length_at, catalogue::specs::Catalogue::id_at, catalogue::specs::Catalogue::ids, catalogue::specs::Catalogue::defaults))]
 fn numbers_length(numbers: &[u64; NUMBERS]) -> usize
     ensures { (result ≡ sum 11 (number_length_at numbers.now)) × (result < 2 ^ 36) }
@@ -88,8 +87,7 @@ fn numbers_length(numbers: &[u64; NUMBERS]) -> usize
     n
 }
 
-// Those of places 11 to 20. The last place's is added behind them: the proof that eleven fit did
-// not close.
+// Those of places 11 to 20. The last place's is added behind them.
 #[tactic(auto, unfolding(crate::specs::Length::others_length, catalogue::specs::Catalogue::id_at, catalogue::specs::Catalogue::ids))]
 fn others_length(r: &TransportParameters) -> usize
     ensures { (result ≡ others_length r.now) × (result < 2 ^ 36) }
@@ -112,7 +110,8 @@ fn others_length(r: &TransportParameters) -> usize
     lengths.iter().map(|n| *n as usize).sum()
 }
 
-/// How many bytes writing the record stores, whatever order it has or will have.
+/// How many bytes writing the record stores, whatever order it has or will have; `IllFormed` for a
+/// record that is not well formed.
 #[tactic(auto, using(crate::proofs::Lengths::measured, crate::proofs::Lengths::not_measured))]
 pub fn length(r: &TransportParameters) -> Result<usize, Refusal>
     ensures { outcome_of result ≡ length_of r.now }

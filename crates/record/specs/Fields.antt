@@ -1,4 +1,4 @@
--- An order, of its fields.
+-- A write order, of its two fields.
 use Rattle.std.specs.Prelude.{ℕ, List, Bool}
 use Rattle.record.specs.declared.WriteOrder.{WriteOrder}
 

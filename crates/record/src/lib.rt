@@ -20,12 +20,16 @@ use words::{all_zero, zero_from};
 /// formed.
 #[derive(Clone, Copy, Debug, Default, PartialEq, Eq)]
 pub struct Optional<T> {
+    /// whether it is there
     pub present: bool,
+    /// what it is, or zeros
     pub value: T,
 }
 
+/// A stateless reset token (RFC 9000 section 10.3).
 #[derive(Clone, Copy, Debug, Default, PartialEq, Eq)]
 pub struct ResetToken {
+    /// as they are sent
     pub bytes: [u8; 16],
 }
 
@@ -34,21 +38,33 @@ pub struct ResetToken {
 /// `preferred_address.value.address_v4.value.port`, which is no plainer.
 #[derive(Clone, Copy, Debug, Default, PartialEq, Eq)]
 pub struct SocketAddr<const N: usize> {
+    /// whether the family is there
     pub present: bool,
+    /// as it is sent, the high byte first
     pub ip: [u8; N],
+    /// 0 where the family is absent
     pub port: u16,
 }
 
+/// An IPv4 address and its port.
 pub type SocketAddrV4 = SocketAddr<4>;
 
+/// An IPv6 address and its port.
 pub type SocketAddrV6 = SocketAddr<16>;
 
+/// Where a server would rather be reached (RFC 9000 section 18.2): an address of one family or of
+/// both.
 #[derive(Clone, Copy, Debug, Default, PartialEq, Eq)]
 pub struct PreferredAddress {
+    /// whether there is one; if not, all else is absent and zero
     pub present: bool,
+    /// the IPv4 address, if there is one
     pub address_v4: SocketAddrV4,
+    /// the IPv6 address, if there is one
     pub address_v6: SocketAddrV6,
+    /// the ID to use there
     pub connection_id: ConnectionId,
+    /// the token that goes with this ID
     pub stateless_reset_token: ResetToken,
 }
 
@@ -56,37 +72,56 @@ pub struct PreferredAddress {
 /// payload is an array with a length, as in the Rust.
 #[derive(Clone, Copy, Debug, Default, PartialEq, Eq)]
 pub struct ReservedTransportParameter {
+    /// whether it is sent
     pub present: bool,
+    /// 31 * n + 27 for some n (RFC 9000 section 18.1), or 0 where it is absent
     pub id: u64,
+    /// the payload, then zeros
     pub payload: [u8; 16],
+    /// how many bytes the payload has
     pub payload_len: u8,
 }
 
 /// The order in which the places are written; where it is absent, catalogue order.
 #[derive(Clone, Copy, Debug, Default, PartialEq, Eq)]
 pub struct WriteOrder {
+    /// whether there is one
     pub present: bool,
+    /// all places of the catalogue, or zeros where it is absent
     pub places: [u8; PLACES],
 }
 
-/// What an extension says, and how it is written. No `==`: two records say the same if they are
-/// equal without order and reserved parameter (`bare`), and then they are tidied to the same bytes.
+/// What an extension says, and how it is written. The fields have quinn's names, and hold what the
+/// parameters say (RFC 9000 section 18.2), in their units. No `==`: two records say the same if
+/// they are equal without order and reserved parameter (`bare`), and then they are tidied to the
+/// same bytes.
 #[derive(Clone, Copy, Debug)]
 pub struct TransportParameters {
     /// places 0 to 10 of the catalogue
     pub numbers: [u64; NUMBERS],
+    /// the peer is not to migrate
     pub disable_active_migration: bool,
+    /// in bytes (RFC 9221 section 3); absent is not 0
     pub max_datagram_frame_size: Option<u64>,
+    /// initial_source_connection_id
     pub initial_src_cid: Optional<ConnectionId>,
+    /// RFC 9287 section 3
     pub grease_quic_bit: bool,
-    /// in microseconds
+    /// in microseconds (draft-ietf-quic-ack-frequency-08 section 3); absent is not 0
     pub min_ack_delay: Option<u64>,
+    /// original_destination_connection_id
     pub original_dst_cid: Optional<ConnectionId>,
+    /// retry_source_connection_id
     pub retry_src_cid: Optional<ConnectionId>,
+    /// a server's
     pub stateless_reset_token: Optional<ResetToken>,
+    /// a server's
     pub preferred_address: PreferredAddress,
+    /// RFC 9368 section 3
     pub version_information: VersionInformation,
+    /// what is sent under a reserved identifier; reading keeps none
     pub grease_transport_parameter: ReservedTransportParameter,
+    /// how it is written; reading keeps none
     pub write_order: WriteOrder,
 }
 
@@ -110,10 +145,12 @@ impl Optional<ConnectionId> {
 }
 
 impl ResetToken {
+    /// How many bytes a token has.
     pub const SIZE: usize = 16;
 }
 
 impl ReservedTransportParameter {
+    /// The longest payload, in bytes.
     pub const MAX_PAYLOAD_LEN: usize = 16;
 }
 
@@ -143,8 +180,7 @@ fn formed_token(o: &Optional<ResetToken>) -> bool
     o.present | zero_from(&o.value.bytes, 0)
 }
 
-// Tried by `is_unspecified`: the proof did not close, since only a reading of the port tells its
-// range.
+// The test of `is_unspecified` stands here once more.
 #[tactic(auto, using(std::proofs::lemmas::Bool::Decides::nat_tests), unfolding(crate::specs::Record::formed_family, refusal::specs::Outcome::all))]
 fn formed_family<const N: usize>(a: &SocketAddr<N>) -> bool
     ensures { result ≡ formed_family N (of_address a.now) }
@@ -220,6 +256,8 @@ impl Default for TransportParameters {
 }
 
 impl TransportParameters {
+    /// Whether all numbers are below 2^62, whatever has a length has one that fits it and zeros
+    /// behind, what is absent is all zero, and the reserved parameter has a reserved identifier.
     #[tactic(auto, using(std::proofs::lemmas::Bool::Decides::nat_tests), unfolding(crate::specs::Record::well_formed, refusal::specs::Outcome::all))]
     pub fn is_well_formed(&self) -> bool
         ensures { result ≡ well_formed self.now }

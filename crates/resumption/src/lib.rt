@@ -55,7 +55,8 @@ fn nothing_reduced(new: &TransportParameters, cached: &TransportParameters) -> b
         & (!cached.grease_quic_bit | new.grease_quic_bit)
 }
 
-/// Whether 0-RTT may go on with new parameters, given those remembered.
+/// Whether 0-RTT may go on with new parameters, given those remembered: `IllFormed` for either
+/// record, then `LimitReduced`.
 #[tactic(auto, unfolding(crate::specs::Resumption::resume))]
 pub fn validate_resumption_from(
     new: &TransportParameters,

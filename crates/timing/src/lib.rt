@@ -86,7 +86,8 @@ fn record_read(src: &[u8]) -> TransportParameters
 /// The number at a place of it, 0 from place 11 on.
 #[unsafe(no_mangle)]
 pub extern "C" fn timing_number(src: &[u8], place: usize) -> u64
-    ensures { result ≡ get_or (value_or default_record (read Side.Client src.now)).numbers place 0 }
+    ensures { result
+        ≡ get_or (value_or default_record (read Side.Client src.now)).numbers place 0 }
 {
     let numbers = record_read(src).numbers;
     numbers.get(place).copied().unwrap_or(0)
@@ -129,6 +130,7 @@ pub extern "C" fn timing_written(record: &[u8], out: &mut [u8]) -> usize
     timing_write(record, 1, out)
 }
 
+/// Tidies once, as a client.
 #[unsafe(no_mangle)]
 pub extern "C" fn timing_tidy(src: &[u8], out: &mut [u8]) -> usize
     ensures { (result, out.new) ≡ counted (tidy Side.Client src.now out.old) }

@@ -5,7 +5,6 @@ use mathlib.Core.List.{List}
 use native.Mathlib.Omega.{arith}
 use lib.ListN.{length, get_or, take, drop, take-append-drop}
 use lib.Seq.{length-take-le}
-use lib.Bits.{bit_and, and_mask}
 use borrow.Author.Tests.{le-leb}
 use Rattle.refusal.specs.Outcome.{accepted}
 use Rattle.words.specs.Words.{value_from, bytes_of}
@@ -31,24 +30,22 @@ module _ (w : ℕ) (h : w < 2 ^ 64) where
       let l : suc n ≤ 8 = omega arith in
       rw (b, d, q, o, le-leb (suc n) 8 l, take_bytes_of n m 7 w j, value_bytes_of n (w / 2 ^ 56 % 64) (w / 256 ^ m))
 
-  pub read_word : accepted (with_saved (bit_and w (2 ^ 62 - 1) / 2 ^ (64 - 8 * 2 ^ (w / 2 ^ 62) % 2 ^ 32)) (1 * 2 ^ (w / 2 ^ 62) % 2 ^ 64)) ≡ read_number (bytes_of 8 w)
+  pub read_word : accepted (with_saved (w % 2 ^ 62 / 2 ^ (64 - 8 * 2 ^ (w / 2 ^ 62) % 2 ^ 32)) (1 * 2 ^ (w / 2 ^ 62) % 2 ^ 64)) ≡ read_number (bytes_of 8 w)
   read_word =
-      rw (and_mask w 62)
-      (four (w / 2 ^ 62) (λ k. k ≡ w / 2 ^ 62 → accepted (with_saved (w % 2 ^ 62 / 2 ^ (64 - 8 * 2 ^ k % 2 ^ 32)) (1 * 2 ^ k % 2 ^ 64)) ≡ read_number (bytes_of 8 w)) (omega arith)
+      four (w / 2 ^ 62) (λ k. k ≡ w / 2 ^ 62 → accepted (with_saved (w % 2 ^ 62 / 2 ^ (64 - 8 * 2 ^ k % 2 ^ 32)) (1 * 2 ^ k % 2 ^ 64)) ≡ read_number (bytes_of 8 w)) (omega arith)
       (λ e. ap (λ x. accepted (with_saved x 1)) (omega arith) ∙ sym (read_at 0 0 7 e refl refl))
       (λ e. ap (λ x. accepted (with_saved x 2)) (omega arith) ∙ sym (read_at 1 1 6 e refl refl))
       (λ e. ap (λ x. accepted (with_saved x 4)) (omega arith) ∙ sym (read_at 2 3 4 e refl refl))
       (λ e. ap (λ x. accepted (with_saved x 8)) (omega arith) ∙ sym (read_at 3 7 0 e refl refl))
-      refl)
+      refl
 
-  pub word_room : length (number_bytes (bit_and w (2 ^ 62 - 1) / 2 ^ (64 - 8 * 2 ^ (w / 2 ^ 62) % 2 ^ 32))) ≤ 1 * 2 ^ (w / 2 ^ 62) % 2 ^ 64
+  pub word_room : length (number_bytes (w % 2 ^ 62 / 2 ^ (64 - 8 * 2 ^ (w / 2 ^ 62) % 2 ^ 32))) ≤ 1 * 2 ^ (w / 2 ^ 62) % 2 ^ 64
   word_room =
-      rw (and_mask w 62)
-      (four (w / 2 ^ 62) (λ k. length (number_bytes (w % 2 ^ 62 / 2 ^ (64 - 8 * 2 ^ k % 2 ^ 32))) ≤ 1 * 2 ^ k % 2 ^ 64) (omega arith)
+      four (w / 2 ^ 62) (λ k. length (number_bytes (w % 2 ^ 62 / 2 ^ (64 - 8 * 2 ^ k % 2 ^ 32))) ≤ 1 * 2 ^ k % 2 ^ 64) (omega arith)
       (no_longer _ 0 (omega arith) (omega arith))
       (no_longer _ 1 (omega arith) (omega arith))
       (no_longer _ 2 (omega arith) (omega arith))
-      (no_longer _ 3 (omega arith) (omega arith)))
+      (no_longer _ 3 (omega arith) (omega arith))
 
 -- of eight bytes or more
 pub read_front : (s : List ℕ) (a : Decoded) → 8 ≤ length s → ((i : ℕ) → get_or s i 0 < 256) → accepted a ≡ read_number (bytes_of 8 (value_from 0 (take 8 s))) → accepted a ≡ read_wide s

@@ -1,7 +1,7 @@
 // Variable-length integers (RFC 9000 section 16): `VarInt` of quinn's varint.rs.
 #![tactic(auto)]
 
-ghost use Rattle.std.specs.Prelude.{◌≡◌, ◌/◌, ◌^◌, ◌<◌, ◌≤◌, length, get_or};
+ghost use Rattle.std.specs.Prelude.{◌≡◌, ◌/◌, ◌%◌, ◌^◌, ◌<◌, ◌≤◌, length, get_or};
 ghost use Rattle.refusal.specs.Outcome.{accepted, front};
 ghost use Rattle.words.specs.Words.{bytes_of};
 ghost use Rattle.varint.specs.Number.{number_bytes, with_saved, read_number, read_wide, write_number, convert_number, size_number};
@@ -12,6 +12,8 @@ ghost use Rattle.varint.specs.NumberLaws.{NumberLaws};
 use refusal::Refusal;
 use words::bytes_at;
 
+/// A number for the wire. One of 2^62 or more has no form there: size and writing refuse it with
+/// `VarIntBoundsExceeded`, and so does `try_from`.
 #[derive(Clone, Copy, Debug, PartialEq, Eq)]
 pub struct VarInt(pub u64);
 
@@ -19,8 +21,11 @@ pub struct VarInt(pub u64);
 /// shortest form would have saved.
 #[derive(Clone, Copy, Debug, PartialEq, Eq)]
 pub struct Decoded {
+    /// the number
     pub value: u64,
+    /// in bytes
     pub count: usize,
+    /// in bytes
     pub saved: usize,
 }
 
@@ -73,7 +78,8 @@ impl VarInt {
         Ok(size_of(x))
     }
 
-    /// The number at the front of `src`. The one-byte form stands apart: most numbers are short.
+    /// The number at the front of `src`; `UnexpectedEnd` if it is cut off. The one-byte form stands
+    /// apart: most numbers are short.
     #[tactic(auto, using(crate::proofs::Bytes::read_none))]
     pub fn decode(src: &[u8]) -> Result<Decoded, Refusal>
         ensures { outcome_of result ≡ read_number src.now }
@@ -109,7 +115,7 @@ impl VarInt {
         wide_of(u64::from_be_bytes(bytes_at(src, 0)))
     }
 
-    /// Writes the shortest form to the front of `out`.
+    /// Writes the shortest form to the front of `out`; `BufferTooShort` if there is no room.
     #[tactic(auto, using(refusal::proofs::Laws::raised, crate::proofs::Laws::write_refused, crate::proofs::Laws::write_sized), unfolding(crate::specs::Number::write_number, refusal::specs::Outcome::store))]
     pub fn encode(self, out: &mut [u8]) -> Result<usize, Refusal>
         ensures { (outcome_of result, out.new) ≡ write_number self.0 out.old }
@@ -151,6 +157,13 @@ fn with_saved(value: u64, count: usize) -> Decoded
     }
 }
 
+// The bits behind the tag.
+fn untagged(word: u64) -> u64
+    ensures { result ≡ word % 2 ^ 62 }
+{
+    word & VarInt::MAX.0
+}
+
 // The number at the front of eight bytes, which make `word`.
 #[tactic(auto, using(crate::proofs::Word::bits_range, crate::proofs::Word::word_room))]
 fn wide_of(word: u64) -> Decoded
@@ -158,7 +171,7 @@ fn wide_of(word: u64) -> Decoded
 {
     let tag = (word >> 62) as u32;
     let bits = 8u32 << tag;
-    with_saved((word & VarInt::MAX.0) >> (64 - bits), 1usize << tag)
+    with_saved(untagged(word) >> (64 - bits), 1usize << tag)
 }
 
 // A number of two, four or eight bytes, as `tag` of the first byte says: a `match`, since const

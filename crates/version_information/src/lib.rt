@@ -18,9 +18,11 @@ use words::bytes_at;
 /// too.
 #[derive(Clone, Copy, Debug, Default, PartialEq, Eq)]
 pub struct VersionInformation {
+    /// whether there is any
     pub present: bool,
     /// how many versions are available
     pub available_len: u8,
+    /// the version that the sender uses
     pub chosen: u32,
     /// the available versions, then zeros
     pub available: [u32; 16],
@@ -33,7 +35,7 @@ impl VersionInformation {
     /// The longest value, in bytes.
     pub const MAX_SIZE: usize = 68;
 
-    /// A chosen version, and available ones, of which there are at most 16.
+    /// A chosen version, and available ones; `IllFormed` if these are more than 16.
     #[tactic(auto, using(std::proofs::lemmas::Bool::Decides::nat_tests), unfolding(crate::specs::VersionInformation::make_versions))]
     pub fn new(chosen: u32, available: &[u32]) -> Result<VersionInformation, Refusal>
         ensures { outcome_of result ≡ make_versions chosen available.now }
@@ -103,7 +105,7 @@ impl VersionInformation {
     }
 
     /// The version information of a value: the chosen version, then the available ones, four bytes
-    /// each.
+    /// each. `Misfit` for bytes that are no value.
     #[tactic(auto, using(crate::proofs::Laws::value_within, crate::proofs::Laws::read_padded), unfolding(crate::specs::VersionInformation::read_versions))]
     pub fn decode(v: &[u8]) -> Result<VersionInformation, Refusal>
         ensures { outcome_of result ≡ read_versions v.now }

@@ -1,4 +1,6 @@
--- What writers leave, of a parameter and of several, one after another.
+-- How the code goes about it: nothing to believe, since the contract of `writer::write` is an
+-- equation with `write` (writer/specs/Writing.antt). What writers leave, of a parameter and of
+-- several, one after another.
 use Rattle.std.specs.Prelude.{ℕ, zero, suc, ◌≤◌, List, [], ◌∷◌, ◌++◌, ◌≡◌, length}
 use Rattle.refusal.specs.Outcome.{front}
 

@@ -1,4 +1,6 @@
--- Parameters stored at the front of a buffer: all of a parameter, or nothing of it.
+-- How the code goes about it: nothing to believe, since the contract of `writer::write` is an
+-- equation with `write` (writer/specs/Writing.antt). Parameters stored at the front of a buffer:
+-- all of a parameter, or nothing of it.
 use Rattle.std.specs.Prelude.{ℕ, ◌≤◌, ◌≡◌, List, [], ◌++◌, Bool, ◌&&◌, not, length, take, get_or, ltb, leb, eqb}
 use Rattle.refusal.specs.Outcome.{pick, front}
 use Rattle.varint.specs.Number.{bound, number_bytes}

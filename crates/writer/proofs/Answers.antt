@@ -71,12 +71,27 @@ module _ (n : ℕ) (order starts parts out : List ℕ) where
   unfolding bytes_in
   laid_ordered present p k m e d l x = rw e (stored_whole p k _ out m (omega (arith, rw e at d.count)) x)
 
-  pub laid_plain : (present : Bool) (k : ℕ) (m : List ℕ) → present ≡ false → Ready n present order starts parts → n ≤ length out
-      → (k, m) ≡ put (take n parts) out → ◌≡◌ {A = Outcome ℕ × List ℕ} (accepted k, m) (store (bytes_in n present order starts parts) out)
+  -- a copy of the first n bytes is all of them
+  copied : (present : Bool) (k : ℕ) (m : List ℕ) → present ≡ false → Ready n present order starts parts → n ≤ length out
+      → (k, m) ≡ put (take n parts) out → Wrote (length out) (take n parts) out k m × (n ≡ length (take n parts))
   unfolding bytes_in
-  laid_plain present k m e d l x =
-      let c : n ≡ length (take n parts) = rw e at d.count in
-      rw e (stored_whole (length out) k _ out m (omega arith) (put_wrote (length out) k (take n parts) out m (omega arith) (omega arith) x))
+  copied present k m e d l x =
+      let c : n ≡ length (take n parts) = rw e at d.count in (
+        put_wrote (length out) k (take n parts) out m (omega arith) (omega arith) x,
+        c,
+      )
+
+  pub copied_count : (present : Bool) (k : ℕ) (m : List ℕ) → present ≡ false → Ready n present order starts parts → n ≤ length out
+      → (k, m) ≡ put (take n parts) out → k ≡ n
+  copied_count present k m e d l x = let w = copied present k m e d l x in omega (arith, w.0.count, w.1)
+
+  pub laid_plain : (present : Bool) (j k : ℕ) (m : List ℕ) → j ≡ n → present ≡ false → Ready n present order starts parts → n ≤ length out
+      → (k, m) ≡ put (take n parts) out → ◌≡◌ {A = Outcome ℕ × List ℕ} (accepted j, m) (store (bytes_in n present order starts parts) out)
+  unfolding bytes_in
+  laid_plain present j k m i e d l x =
+      let w = copied present k m e d l x in
+      let c : j ≡ k = omega (arith, w.0.count, w.1) in
+      rw (e, c) (stored_whole (length out) k _ out m (omega (arith, w.1)) w.0)
 
 -- writing
 module _ (r : TransportParameters) (out : List ℕ) where

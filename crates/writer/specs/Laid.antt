@@ -1,4 +1,6 @@
--- Parameters laid one after another, with their ends noted; and copied from there in an order.
+-- How the code goes about it: nothing to believe, since the contract of `writer::write` is an
+-- equation with `write` (writer/specs/Writing.antt). Parameters laid one after another, with their
+-- ends noted; and copied from there in an order.
 use Rattle.std.specs.Prelude.{ℕ, suc, ◌+◌, ◌-◌, ◌≤◌, ◌<◌, List, [], ◌∷◌, ◌++◌, ◌≡◌, Bool, true, length, get_or, take, drop, set}
 use Rattle.refusal.specs.Outcome.{pick}
 use Rattle.catalogue.specs.Catalogue.{places}

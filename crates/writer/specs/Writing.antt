@@ -1,5 +1,5 @@
--- Writing an extension (RFC 9000 section 18), as a definition: the parameters due, in the order
--- given.
+-- Writing an extension (RFC 9000 section 18): the parameters due, in the order given, and what
+-- writing answers; and the length of a record.
 use Rattle.std.specs.Prelude.{ℕ, List, [], ◌∷◌, ◌++◌, length, take, eqb}
 use Rattle.refusal.specs.Outcome.{Outcome, accepted, refused, pick, store}
 use Rattle.record.specs.declared.TransportParameters.{TransportParameters}

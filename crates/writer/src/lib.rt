@@ -66,10 +66,10 @@ fn put_versions(v: &VersionInformation, out: &mut [u8]) -> usize
 }
 
 // Each lays the parameter due at a place, if it is, behind the first `at` bytes, notes where the
-// next place starts, and gives that. `at` is no field: writing a full record took 99 instructions
-// more by one; and so what holds before a place is a clause of each, and no invariant. Three end in
-// the same two lines: a helper would be longer than what it saves. Those that several places have
-// are inlined: as functions of their own, writing took 280 to 450 instructions more.
+// next place starts, and gives that. `at` is no field, by which writing is slower; so what holds
+// before a place is a clause of each, and no invariant. Three end in the same two lines: a helper
+// would be longer than what it saves. Those that several places have are inlined: there a place's
+// identifier is a constant.
 impl Draft {
     #[inline(always)]
     fn number(&mut self, at: usize, p: usize, o: Option<u64>) -> usize
@@ -229,9 +229,7 @@ fn put_part(len: usize, room: usize, part: &[u8], out: &mut [u8])
 }
 
 // Copies the bytes by a loop: `copy_from_slice` is a call for each part, most of them empty, and
-// tests each time that the two are apart. By it writing a small record in an order took 320
-// instructions more, others 110. By index: over pairs of `zip` it is as long, and its proof would
-// say of each reference what it held at last.
+// tests each time that the two are apart.
 #[tactic(auto, using(wire::proofs::Stored::front_paste, crate::proofs::Ordered::copied))]
 fn put_few(bytes: &[u8], out: &mut [u8])
     requires { length bytes.now ≤ length out.old }
@@ -267,7 +265,9 @@ impl Draft {
     fn put(&self, n: usize, order: &WriteOrder, out: &mut [u8]) -> Result<usize, Refusal>
         requires { Ready n order.now.present order.now.places self.now.starts self.now.parts }
         ensures { (outcome_of result, out.new)
-            ≡ store (bytes_in n order.now.present order.now.places self.now.starts self.now.parts) out.old }
+            ≡ store
+            (bytes_in n order.now.present order.now.places self.now.starts self.now.parts)
+            out.old }
     {
         if out.len() < n {
             return Err(Refusal::BufferTooShort);
@@ -287,8 +287,9 @@ fn is_order(w: &WriteOrder) -> bool
     !w.present || is_permutation(&w.places)
 }
 
-/// Writes the record to the front of `out`, in its order. It is laid in an array first, so that the
-/// count is known before a byte of `out` is touched.
+/// Writes the record to the front of `out`, in its order: `IllFormed`, then `InvalidOrder`, then
+/// `BufferTooShort`. It is laid in an array first, so that the count is known before a byte of
+/// `out` is touched.
 #[tactic(auto, using(crate::proofs::Answers::write_ill, crate::proofs::Answers::write_invalid, words::proofs::Laws::zeros_replicate, order::proofs::Orders::in_catalogue, crate::proofs::Extension::longest, crate::proofs::Places::in_catalogue_order), unfolding(crate::specs::Writing::order_of))]
 pub fn write(r: &TransportParameters, out: &mut [u8]) -> Result<usize, Refusal>
     ensures { (outcome_of result, out.new) ≡ write r.now out.old }

@@ -8,4 +8,4 @@ pub returns : goal.returns
 returns c =
     let w = c.args.word in
     let h : w < 2 ^ 64 = omega arith in
-    rw c.with_saved.ensures (read_word w h, (bits_range (w / 2 ^ 62) (omega arith)).2)
+    rw (c.with_saved.ensures, c.untagged.ensures) (read_word w h, (bits_range (w / 2 ^ 62) (omega arith)).2)
