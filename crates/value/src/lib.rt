@@ -76,7 +76,7 @@ fn check_address(start: usize, v: &[u8]) -> Result<Held, Fault>
 }
 
 // Version information: that a version is zero is no fault of its parameter.
-#[tactic(auto, using(crate::proofs::Checks::by_length), unfolding(catalogue::specs::Catalogue::illegal, crate::specs::Value::held_of))]
+#[tactic(auto, using(crate::proofs::Checks::by_length, crate::proofs::Checks::versions_fit), unfolding(catalogue::specs::Catalogue::illegal, crate::specs::Value::held_of))]
 fn check_versions(start: usize, v: &[u8]) -> Result<Held, Fault>
     ensures { fault_outcome result ≡ check_kind versions start v.now }
 {

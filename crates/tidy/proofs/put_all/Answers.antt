@@ -15,4 +15,4 @@ put_others-requires c = (laid_within _ 1 0 _ _ [] _ [] (omega arith) c.put_numbe
 
 pub returns : goal.returns
 unfolding pieces
-returns c = let a = c.args in c.put_others.ensures ∙ laid_then (each (due_number_at a.kept.now.entries.kept) 11) (others a.kept.now.src.now (found_of a.kept.now.entries)) 1 12 0 _ a.out.now [] _ [] (rw (length_each (due_number_at a.kept.now.entries.kept) 11)) c.put_numbers-start.ensures
+returns c = let a = c.args in c.put_others.ensures ∙ laid_then (each (due_number_at a.kept.now.entries.kept) 11) (others a.kept.now.src.now (found_of a.kept.now.entries)) 1 12 0 _ a.out.now [] _ [] (rw (length_each (due_number_at a.kept.now.entries.kept) 11)) (rw c.entries.ensures at c.put_numbers-start.ensures)
