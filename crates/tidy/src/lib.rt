@@ -101,6 +101,7 @@ fn put_tidied(kept: &Kept, out: &mut [u8]) -> Result<usize, Refusal>
 }
 
 /// Tidies `src` to the front of `out`.
+#[tactic(auto, using(crate::proofs::Pieces::stored, crate::proofs::Pieces::few_kept))]
 pub fn tidy(side: Side, src: &[u8], out: &mut [u8]) -> Result<usize, Refusal>
     ensures { (outcome_of result, out.new) ≡ tidy side src.now out.old }
 {
