@@ -164,6 +164,7 @@ impl<'a> Kept<'a> {
     }
 
     /// The value received at a place; none at one that holds a number.
+    #[tactic(auto, using(crate::proofs::Parts::none_unmet, crate::proofs::Parts::there_at))]
     pub fn value(&self, place: usize) -> Option<&'a [u8]>
         ensures { option_of (option_copied result)
             ≡ value_of self.now.src.now (found_of self.now.entries) place }
