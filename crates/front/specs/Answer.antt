@@ -1,4 +1,4 @@
--- The number that a fault is refused with, and the code's answers in the definitions' terms.
+-- The code's answers in the definitions' terms, and the number that a fault is refused with.
 use Rattle.std.specs.Prelude.{Result as Answer, Ok, Err}
 use Rattle.refusal.specs.Outcome.{Result, accepted, refused, Outcome}
 use Rattle.refusal.specs.Number.{number_of}

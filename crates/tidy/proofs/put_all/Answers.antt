@@ -11,7 +11,7 @@ use Rattle.tidy.specs.Pieces.{others, pieces}
 use Rattle.tidy.proofs.put_all.Goals as goal
 
 pub put_others-requires : goal.put_others-requires
-put_others-requires c = (laid_within _ 1 0 _ _ [] _ [] (omega arith) c.put_numbers-start.ensures).0
+put_others-requires c = (laid_within _ 1 0 _ _ [] _ [] (omega arith) (rw c.entries.ensures at c.put_numbers-start.ensures)).0
 
 pub returns : goal.returns
 unfolding pieces

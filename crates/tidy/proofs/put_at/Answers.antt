@@ -8,11 +8,11 @@ use Rattle.tidy.proofs.Pieces.{none_due, number_due, value_due, unmet}
 use Rattle.tidy.proofs.put_at.Goals as goal
 
 pub returns-then-not-is_met : goal.returns-then-not-is_met
-returns-then-not-is_met c = none_due _ c.args.kept.now.src.now (found_of c.args.kept.now.entries) _ _ (rw (← c.entries-entries.ensures) (sym c.is_met.ensures ∙ c.if-not-is_met.true))
+returns-then-not-is_met c = none_due _ c.args.kept.now.src.now (found_of c.args.kept.now.entries) _ _ (sym (rw c.entries-entries.ensures at c.is_met.ensures) ∙ c.if-not-is_met.true)
 
 pub returns-then-is_marked : goal.returns-then-is_marked
 unfolding id_at ids
-returns-then-is_marked c = c.put_number.ensures ∙ rw (c.entries-entries.ensures, number_due _ c.args.kept.now.src.now (found_of c.args.kept.now.entries) _ (rw (← c.entries-entries.ensures) (sym c.is_met.ensures ∙ c.if-not-is_met.false)) (sym c.is_marked.ensures ∙ c.if-is_marked.true))
+returns-then-is_marked c = rw c.entries-entries.ensures at c.put_number.ensures ∙ rw (number_due _ c.args.kept.now.src.now (found_of c.args.kept.now.entries) _ (sym (rw c.entries-entries.ensures at c.is_met.ensures) ∙ c.if-not-is_met.false) (sym c.is_marked.ensures ∙ c.if-is_marked.true))
 
 pub returns-in-Some : goal.returns-in-Some
 unfolding id_at ids
