@@ -11,7 +11,7 @@ use Rattle.words.specs.Words.{zeros}
 abbrev pub places : ℕ
 places = 22
 
--- the name of each place, as in the documents and in quinn's source
+-- the name of each place, as in quinn's source; `reserved` and `version_information` are our own
 unfoldable pub names : List (List ℕ)
 names =
     codes "max_idle_timeout"

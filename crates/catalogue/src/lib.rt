@@ -6,71 +6,99 @@ ghost use Rattle.std.specs.Prelude.{◌≡◌, map};
 ghost use Rattle.catalogue.specs.Catalogue.{names, ids, defaults, place_of};
 ghost use Rattle.catalogue.specs.PlaceLaws.{PlaceLaws};
 
-/// How many places the catalogue has; the first of them hold plain numbers.
+/// How many places the catalogue has.
 pub const PLACES: usize = 22;
 
+/// How many of them, the first, hold plain numbers that have a default.
 pub const NUMBERS: usize = 11;
 
 /// No extension of a record is longer, in bytes.
 pub const MAX_EXTENSION: usize = 385;
 
-/// The places: numbers and no enum, since entries of orders, bits of marks and positions in arrays
-/// are these.
+// The places: numbers and no enum, since entries of orders, bits of marks and positions in arrays
+// are these. Each says the unit of what stands there, and where it is defined.
+
+/// In milliseconds, 0 for none (RFC 9000 section 18.2).
 pub const MAX_IDLE_TIMEOUT: usize = 0;
 
+/// In bytes (RFC 9000 section 18.2).
 pub const MAX_UDP_PAYLOAD_SIZE: usize = 1;
 
+/// In bytes, of the connection (RFC 9000 section 18.2).
 pub const INITIAL_MAX_DATA: usize = 2;
 
+/// In bytes, of a stream that the sender opens (RFC 9000 section 18.2).
 pub const INITIAL_MAX_STREAM_DATA_BIDI_LOCAL: usize = 3;
 
+/// In bytes, of a stream that the receiver opens (RFC 9000 section 18.2).
 pub const INITIAL_MAX_STREAM_DATA_BIDI_REMOTE: usize = 4;
 
+/// In bytes (RFC 9000 section 18.2).
 pub const INITIAL_MAX_STREAM_DATA_UNI: usize = 5;
 
+/// A count of streams (RFC 9000 section 18.2).
 pub const INITIAL_MAX_STREAMS_BIDI: usize = 6;
 
+/// A count of streams (RFC 9000 section 18.2).
 pub const INITIAL_MAX_STREAMS_UNI: usize = 7;
 
+/// An exponent of 2 (RFC 9000 section 18.2).
 pub const ACK_DELAY_EXPONENT: usize = 8;
 
+/// In milliseconds (RFC 9000 section 18.2).
 pub const MAX_ACK_DELAY: usize = 9;
 
+/// A count of connection IDs (RFC 9000 section 18.2).
 pub const ACTIVE_CONNECTION_ID_LIMIT: usize = 10;
 
+/// A drawn identifier of 31 N + 27 and up to 16 drawn bytes (RFC 9000 section 18.1).
 pub const RESERVED: usize = 11;
 
+/// 16 bytes (RFC 9000 section 18.2).
 pub const STATELESS_RESET_TOKEN: usize = 12;
 
+/// A flag, which has no value (RFC 9000 section 18.2).
 pub const DISABLE_ACTIVE_MIGRATION: usize = 13;
 
+/// In bytes (RFC 9221 section 3).
 pub const MAX_DATAGRAM_FRAME_SIZE: usize = 14;
 
+/// Addresses of two families, a connection ID and a token (RFC 9000 section 18.2).
 pub const PREFERRED_ADDRESS: usize = 15;
 
+/// A connection ID (RFC 9000 sections 7.3 and 18.2).
 pub const ORIGINAL_DST_CID: usize = 16;
 
+/// A connection ID (RFC 9000 sections 7.3 and 18.2).
 pub const INITIAL_SRC_CID: usize = 17;
 
+/// A connection ID (RFC 9000 sections 7.3 and 18.2).
 pub const RETRY_SRC_CID: usize = 18;
 
+/// A flag, which has no value (RFC 9287 section 3).
 pub const GREASE_QUIC_BIT: usize = 19;
 
+/// In microseconds (draft-ietf-quic-ack-frequency-08 section 3).
 pub const MIN_ACK_DELAY: usize = 20;
 
+/// Four bytes a version, the chosen one first (RFC 9368 section 3).
 pub const VERSION_INFORMATION: usize = 21;
 
-/// The places of each kind that has more than one, a bit for each: one look at a bit tells several
-/// kinds from the others.
+// The places of each kind that has more than one, a bit for each: one look at a bit tells several
+// kinds from the others.
+
+/// Of numbers.
 pub const NUMBER_PLACES: u32 = ((1 << NUMBERS) - 1)
     | (1 << MAX_DATAGRAM_FRAME_SIZE)
     | (1 << MIN_ACK_DELAY);
 
+/// Of flags.
 pub const FLAG_PLACES: u32 = (1 << DISABLE_ACTIVE_MIGRATION) | (1 << GREASE_QUIC_BIT);
 
+/// Of connection IDs.
 pub const CID_PLACES: u32 = (1 << ORIGINAL_DST_CID) | (1 << INITIAL_SRC_CID) | (1 << RETRY_SRC_CID);
 
-/// Those of numbers, flags, IDs and the token.
+/// Of numbers, flags, IDs and the token.
 pub const SIMPLE_PLACES: u32 = NUMBER_PLACES
     | FLAG_PLACES
     | CID_PLACES
@@ -129,28 +157,39 @@ pub const IDS: [u64; PLACES] = [
     0x11,
 ];
 
-/// Those of the places that hold no plain number, by name.
+// Those that a program asks for by name.
+
+/// Of the token (RFC 9000 section 18.2).
 pub const STATELESS_RESET_TOKEN_ID: u64 = IDS[STATELESS_RESET_TOKEN];
 
+/// Of the flag (RFC 9000 section 18.2).
 pub const DISABLE_ACTIVE_MIGRATION_ID: u64 = IDS[DISABLE_ACTIVE_MIGRATION];
 
+/// Of the largest datagram frame (RFC 9221 section 3).
 pub const MAX_DATAGRAM_FRAME_SIZE_ID: u64 = IDS[MAX_DATAGRAM_FRAME_SIZE];
 
+/// Of the preferred address (RFC 9000 section 18.2).
 pub const PREFERRED_ADDRESS_ID: u64 = IDS[PREFERRED_ADDRESS];
 
+/// Of the client's first destination ID (RFC 9000 sections 7.3 and 18.2).
 pub const ORIGINAL_DST_CID_ID: u64 = IDS[ORIGINAL_DST_CID];
 
+/// Of the sender's first source ID (RFC 9000 sections 7.3 and 18.2).
 pub const INITIAL_SRC_CID_ID: u64 = IDS[INITIAL_SRC_CID];
 
+/// Of a Retry's source ID (RFC 9000 sections 7.3 and 18.2).
 pub const RETRY_SRC_CID_ID: u64 = IDS[RETRY_SRC_CID];
 
+/// Of the flag that the QUIC bit may be greased (RFC 9287 section 3).
 pub const GREASE_QUIC_BIT_ID: u64 = IDS[GREASE_QUIC_BIT];
 
+/// Of the least delay of an acknowledgment (draft-ietf-quic-ack-frequency-08 section 3).
 pub const MIN_ACK_DELAY_ID: u64 = IDS[MIN_ACK_DELAY];
 
+/// Of the versions (RFC 9368 section 3).
 pub const VERSION_INFORMATION_ID: u64 = IDS[VERSION_INFORMATION];
 
-/// The defaults of the plain numbers.
+/// The defaults of the plain numbers (RFC 9000 section 18.2).
 pub const DEFAULTS: [u64; NUMBERS] = [0, 65527, 0, 0, 0, 0, 0, 0, 3, 25, 2];
 
 /// The names by place: here and below, that a table is the definition's.

@@ -1,4 +1,5 @@
--- Going through the parameters of some bytes.
+-- How the code goes about it: nothing to believe, since the contract of `reader::read` is an
+-- equation with `read` (reader/specs/Reading.antt). Going through the parameters of some bytes.
 use Rattle.std.specs.Prelude.{ℕ, ◌≡◌, ◌≤◌, ◌<◌, length, Option as Maybe, Result as Answer, MatchOption, MatchResult}
 use Rattle.front.specs.declared.Fault.{Fault}
 use Rattle.front.specs.declared.Parameter.{Parameter}
@@ -14,4 +15,6 @@ Steps s r t =
     (t.src.now ≡ s.src.now)
     × MatchOption r ((length s.src.now ≤ s.at) × (t.at ≡ s.at)) λ x.
     (s.at < length s.src.now) × (x.0 ≡ s.at) × (fault_outcome x.1 ≡ located s.src.now s.at)
-    × MatchResult x.1 (λ p. (t.at ≡ p.end) × (s.at < p.start) × (p.start ≤ p.end) × (p.end ≤ length s.src.now)) (λ f. t.at ≡ length s.src.now)
+    × MatchResult x.1
+    (λ p. (t.at ≡ p.end) × (s.at < p.start) × (p.start ≤ p.end) × (p.end ≤ length s.src.now))
+    (λ f. t.at ≡ length s.src.now)

@@ -39,13 +39,16 @@ impl From<Fault> for Refusal {
     }
 }
 
-/// A parameter of an extension: its identifier, where its value starts and ends, and how many bytes
-/// the shortest forms of identifier and length would have saved.
+/// A parameter of an extension, by where it stands there.
 #[derive(Clone, Copy, Debug, PartialEq, Eq)]
 pub struct Parameter {
+    /// the identifier
     pub id: u64,
+    /// where the value starts, in bytes
     pub start: usize,
+    /// where it ends
     pub end: usize,
+    /// what the shortest forms would have saved, in bytes
     pub saved: usize,
 }
 
@@ -109,7 +112,9 @@ fn any_parameter_at<const COUNTED: bool>(src: &[u8], at: usize) -> Result<Parame
 /// that cannot be read. `COUNTED` as above.
 #[derive(Drop)]
 pub struct Parameters<'a, const COUNTED: bool> {
+    /// the bytes
     pub src: &'a [u8],
+    /// where the next parameter starts
     pub at: usize,
 }
 

@@ -1,9 +1,9 @@
 -- The parts of what is kept, as the definitions have them. Assumes nothing.
---     none_outside, none_number, none_unmet, of_bytes, there    where a value stands, and where
---       there is none
+--     of_bytes, there, there_at                 where a value stands
+--     none_outside, none_number, none_unmet     where there is none
 --     versions_fit       version information that was met fits
 --     address_long       a preferred address that was met has a connection ID's length
-use Prim.Native.Nat.{ℕ, ◌+◌, ◌≤◌, ◌<◌}
+use Prim.Native.Nat.{ℕ, ◌+◌, ◌-◌, ◌≤◌, ◌<◌}
 use mathlib.Core.Path.{◌≡◌, refl, sym, ◌∙◌}
 use mathlib.Core.List.{List}
 use mathlib.Core.Option.{Option, none, some}
@@ -50,6 +50,13 @@ module _ (s : List ℕ) (f : Found) (p : ℕ) where
   pub there : p < places → marked 0x1047ff p ≡ false → marked f.0 p ≡ true → some (take (get_or f.2 p 0) (drop (get_or f.1 p 0) s)) ≡ value_of s f p
   unfolding value_at
   there h n m = rw (of_bytes h (not_number_at p n), m)
+
+  -- from where it starts to where it ends
+  pub there_at : (a e : ℕ) → p < places → marked 0x1047ff p ≡ false → marked f.0 p ≡ true → a ≡ get_or f.1 p 0 → e ≡ a + get_or f.2 p 0
+      → some (take (e - a) (drop a s)) ≡ value_of s f p
+  there_at a e h n m ea ee =
+      let k : e - a ≡ get_or f.2 p 0 = omega (arith, ee) in
+      rw (k, ea) (there h n m)
 
 -- 15 holds an address
 pub address_place : kind_at 15 ≡ address

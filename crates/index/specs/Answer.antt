@@ -1,4 +1,5 @@
--- The code's answers in the definitions' terms.
+-- How the code goes about it: nothing to believe, since the contract of `reader::read` is an
+-- equation with `read` (reader/specs/Reading.antt). Its answers in the definitions' terms.
 use Rattle.std.specs.Prelude.{ℕ, List, Option as Maybe, None, Some, Result as Answer, Ok, Err}
 use Rattle.std.proofs.Math.Option.{Option, none, some}
 use Rattle.refusal.specs.Outcome.{Result, accepted, refused}

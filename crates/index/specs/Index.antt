@@ -1,5 +1,6 @@
--- What is kept of an extension: marks of the places met; by place, the number or where the value
--- starts; and the value's length.
+-- How the code goes about it: nothing to believe, since the contract of `reader::read` is an
+-- equation with `read` (reader/specs/Reading.antt). What is kept of an extension: marks of the
+-- places met; by place, the number or where the value starts; and the value's length.
 use Rattle.std.specs.Prelude.{ℕ, zero, suc, ◌+◌, ◌-◌, ◌%◌, ◌^◌, ◌<◌, ◌≤◌, List, [], ◌∷◌, ◌++◌, ◌≡◌, Bool, true, false, ◌&&◌, length, get_or, take, drop, set, replicate, ltb}
 use Rattle.std.specs.Prelude.{None, Some}
 use Rattle.std.proofs.Math.Option.{Option, none, some}

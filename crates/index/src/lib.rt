@@ -24,19 +24,19 @@ use tally::{Sums, restates};
 use value::Received;
 use version_information::VersionInformation;
 
-/// What is found in an extension: the marks of the places met; and what is kept, by place: the
-/// number, or where the value starts; and the value's length. Without a value a number is the
-/// default, and everything else 0. The two are no array of structs: nearly twice as long, it takes
-/// reading 73 instructions more.
+/// What is found in an extension. Without a value a number is the default, and everything else 0.
+/// Two arrays and no array of structs, which would be nearly twice as long.
 #[derive(Clone, Copy)]
 pub struct Entries {
+    /// the marks of the places met
     pub marks: u32,
+    /// by place, the number or where the value starts
     pub kept: [u64; PLACES],
+    /// by place, the value's length in bytes
     pub lens: [u8; PLACES],
 }
 
-// Before anything is received. Written out: copied into an array of zeros, the defaults take
-// reading 100 instructions more.
+// Before anything is received. Written out: the defaults are not copied at each reading.
 const INITIAL: [u64; PLACES] = [
     DEFAULTS[0],
     DEFAULTS[1],
@@ -73,14 +73,14 @@ impl Entries {
         }
     }
 
+    /// Whether a place was met.
     pub fn is_met(&self, place: usize) -> bool
         ensures { result ≡ marked self.now.marks place }
     {
         is_marked(self.marks, place)
     }
 
-    /// The numbers of places 0 to 10. By `copy_from_slice` the arrays would be kept in memory: 100
-    /// instructions more in reading.
+    /// The numbers of places 0 to 10. Not by `copy_from_slice`, which keeps the arrays in memory.
     pub fn numbers(&self) -> [u64; NUMBERS]
         ensures { result ≡ elements 11 0 self.now.kept }
     {
@@ -164,6 +164,7 @@ impl<'a> Kept<'a> {
     }
 
     /// The value received at a place; none at one that holds a number.
+    #[tactic(auto, using(crate::proofs::Parts::none_unmet, crate::proofs::Parts::there_at))]
     pub fn value(&self, place: usize) -> Option<&'a [u8]>
         ensures { option_of (option_copied result)
             ≡ value_of self.now.src.now (found_of self.now.entries) place }
@@ -250,8 +251,7 @@ pub fn index<'a>(side: Side, src: &'a [u8]) -> Result<Kept<'a>, Fault>
     ensures found { index_outcome (λ kept. found_of kept.entries) result ≡ indexed side src.now }
     ensures lent { IfOk result (λ kept. kept.src.now ≡ src.now) }
 {
-    // Made before the scan: made behind it, the compiler takes the arrays apart, and reading a
-    // typical extension takes 23 instructions more.
+    // Made before the scan: made behind it, the compiler takes the arrays apart.
     let mut kept = Kept {
         entries: Entries::empty(),
         src,
@@ -263,8 +263,8 @@ pub fn index<'a>(side: Side, src: &'a [u8]) -> Result<Kept<'a>, Fault>
     Ok(kept)
 }
 
-/// The same for a report: the marks of the places met, and what tidying drops. No part of what is
-/// kept: reading would take a sixth longer.
+/// The same for a report: the marks of the places met, and what tidying drops. The sums are no part
+/// of what is kept, so that reading does not pay for them.
 #[tactic(auto, using(crate::proofs::Settled::not_counted, crate::proofs::Settled::counted_lem, crate::proofs::Settled::illegal))]
 pub fn counted(side: Side, src: &[u8]) -> Result<(u32, Sums), Fault>
     ensures { fault_outcome result ≡ counted side src.now }

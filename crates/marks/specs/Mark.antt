@@ -1,4 +1,5 @@
--- Bit k of a number, and the number with it set.
+-- How the code goes about it: nothing to believe, since the contract of `reader::read` is an
+-- equation with `read` (reader/specs/Reading.antt). Bit k of a number, and the number with it set.
 use Rattle.std.specs.Prelude.{ℕ, ◌/◌, ◌%◌, ◌^◌, Bool, eqb}
 use Rattle.std.specs.Int.Bits.{bit_or}
 

@@ -1,4 +1,4 @@
--- The code's answer in the definition's terms.
+-- The position of an order's first fault, or none: the code's answer in the definition's terms.
 use Rattle.std.specs.Prelude.{ℕ, Option as Answer, None, Some}
 use Rattle.std.proofs.Math.Option.{Option, none, some}
 

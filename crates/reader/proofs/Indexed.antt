@@ -161,8 +161,9 @@ read_indexed side s = go (index_from s 0 nothing) (parse no_values s) (related s
 pub read_stopped : (side : Side) (s : List ℕ) (x : Fault) → refused x ≡ indexed side s → refused (number_of (refused_with x)) ≡ read side s
 read_stopped side s x h = rw (read_indexed side s, ← h)
 
-pub read_kept : (side : Side) (s : List ℕ) (f : Found) (r : TransportParameters) → r ≡ record_kept s f → accepted f ≡ indexed side s → accepted r ≡ read side s
-read_kept side s f r e h = rw (e, read_indexed side s, ← h)
+-- what is kept stands in k, which is that extension
+pub read_kept : (side : Side) (s k : List ℕ) (f : Found) (r : TransportParameters) → r ≡ record_kept k f → k ≡ s → accepted f ≡ indexed side s → accepted r ≡ read side s
+read_kept side s k f r e l h = rw (e, l, read_indexed side s, ← h)
 
 -- a part that was lent by its start and its length
 pub lent : (a n : ℕ) (s : List ℕ) → take (a + n - a) (drop a s) ≡ take n (drop a s)

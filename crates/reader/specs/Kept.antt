@@ -1,4 +1,5 @@
--- The record of what is kept of an extension.
+-- How the code goes about it: nothing to believe, since the contract of `reader::read` is an
+-- equation with `read` (reader/specs/Reading.antt). The record of what is kept of an extension.
 use Rattle.std.specs.Prelude.{ℕ, ◌≡◌, List, true}
 use Rattle.std.proofs.Math.Option.{Option, none, some}
 use Rattle.words.specs.Words.{elements}

@@ -137,6 +137,7 @@ fn record_of(kept: &Kept) -> TransportParameters
 }
 
 /// Reads an extension for a side.
+#[tactic(auto, using(crate::proofs::Indexed::read_kept))]
 pub fn read(side: Side, src: &[u8]) -> Result<TransportParameters, Refusal>
     ensures { outcome_of result ≡ read side src.now }
 {

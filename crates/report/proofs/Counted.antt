@@ -144,14 +144,14 @@ module _ (s : Side) (e : List ℕ) where
     taken = let p = passed in rw (← p.sums) (omega (arith, complete s e (record_kept e p.found) hb (read_recorded s e p.found p.was)))
 
     -- whatever the code makes of them: what is left of the length, and the ones of the mask
-    pub is_report : (t n : ℕ) → t + (d.skipped + d.restated + d.saved) ≡ length e → n ≡ ones m
-        → accepted (record { tidied = t; skipped = d.skipped; restated = d.restated; saved = d.saved; named = n }) ≡ report s e
+    pub is_report : (t a b v n : ℕ) → t + (d.skipped + d.restated + d.saved) ≡ length e → a ≡ d.skipped → b ≡ d.restated → v ≡ d.saved → n ≡ ones m
+        → accepted (record { tidied = t; skipped = a; restated = b; saved = v; named = n }) ≡ report s e
     unfolding report
-    is_report t n x y =
+    is_report t a b v n x ea eb ev y =
         let p = passed in
         let k = read_recorded s e p.found p.was in
         let c = complete s e (record_kept e p.found) hb k in
         let z : t + ((counts (parameters e)).skipped + (counts (parameters e)).restated + (counts (parameters e)).saved) ≡ length e = rw (← p.sums) at x in
         let l : t ≡ (counts (parameters e)).tidied = omega (arith, c, z) in
         let o : n ≡ (counts (parameters e)).named = y ∙ rw (← p.marks) (marks_named s e p.found p.was) in
-        rw (k, l, o, ← p.sums) refl
+        rw (ea, eb, ev, k, l, o, ← p.sums) refl

@@ -19,16 +19,19 @@ use version_information::VersionInformation;
 /// speaks.
 #[derive(Clone, Copy, Debug, PartialEq, Eq)]
 pub enum Side {
+    /// the client reads, the server speaks
     Client,
+    /// the server reads, the client speaks
     Server,
 }
 
 const MAX_STREAM_COUNT: u64 = 1 << 60;
 
-/// The units of min_ack_delay and max_ack_delay.
+/// The unit of min_ack_delay (draft-ietf-quic-ack-frequency-08 section 3).
 #[derive(Clone, Copy, Debug, PartialEq, Eq)]
 pub struct Microseconds(pub u64);
 
+/// The unit of max_ack_delay (RFC 9000 section 18.2).
 #[derive(Clone, Copy, Debug, PartialEq, Eq)]
 pub struct Milliseconds(pub u64);
 
@@ -42,15 +45,20 @@ impl Milliseconds {
     }
 }
 
-/// What the value rules ask of a record, but for its numbers: which of these are present, and the
-/// length of the preferred address's ID. No Option for address and length: it has no room for a
-/// length beside an absent address, of which the definition speaks.
+/// What the value rules ask of a record, but for its numbers: which of these are present. No Option
+/// for address and length: it has no room for a length beside an absent address, of which the
+/// definition speaks.
 #[derive(Clone, Copy, Debug, PartialEq, Eq)]
 pub struct Presence {
+    /// original_dst_cid is
     pub original: bool,
+    /// preferred_address is
     pub address: bool,
+    /// retry_src_cid is
     pub retry: bool,
+    /// stateless_reset_token is
     pub token: bool,
+    /// the length of the preferred address's ID, in bytes
     pub id_len: u8,
 }
 

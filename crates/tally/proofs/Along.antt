@@ -1,7 +1,7 @@
 -- What a scan of an extension adds up, as far as it has come. Assumes nothing.
 --     start, done             at the front nothing, and at the end all
 --     skip, restate, keep     over a parameter that is unknown, that restates a default, or that is
---                             sent again
+--                             sent again, whatever sums have become what they must
 use Prim.Native.Nat.{ℕ, ◌+◌, ◌-◌, ◌≤◌, ◌<◌}
 use mathlib.Core.Path.{◌≡◌, refl, ap, sym, ◌∙◌, subst}
 use mathlib.Core.List.{List, []}
@@ -126,10 +126,10 @@ module _ (s : List ℕ) (at : ℕ) (p : Parameter) (h : at < length s) (q : acce
         within = omega (arith, a.within, i.behind, i.start);
       }
 
-  pub skip : places ≤ place_of p.id → Along s p.end (record { skipped = t.skipped + (p.end - at); restated = t.restated; saved = t.saved })
-  skip k =
+  pub skip : places ≤ place_of p.id → (u : Sums) → u.skipped ≡ t.skipped + (p.end - at) → u.restated ≡ t.restated → u.saved ≡ t.saved → Along s p.end u
+  skip k u x y z =
       let f : fate_of p.id v ≡ skipped = unfold fate_of in rw (le-ltb (place_of p.id) places k) refl in
-      stepped _ _ (subst (λ k. count_of w ≡ count_as k p.id v w) f adds) (omega (arith, long)) (omega arith) (omega arith) (omega (arith, long))
+      stepped _ u (subst (λ k. count_of w ≡ count_as k p.id v w) f adds) (omega (arith, long, x)) (omega (arith, y)) (omega (arith, z)) (omega (arith, long))
 
   -- a known one, of which x is kept
   module _ (m : Bool) (x : Held) (k : place_of p.id < places) (r : accepted x ≡ receive_value m (place_of p.id) p.start v) where
@@ -140,9 +140,9 @@ module _ (s : List ℕ) (at : ℕ) (p : Parameter) (h : at < length s) (q : acce
     unfolding fate_of
     fate b e = rw (lt-ltb (place_of p.id) places k, ← e) (ap (λ b. pick b restated kept) (sym (same_default (place_of p.id) p.start v x held)))
 
-    pub restate : restates (place_of p.id) x.kept ≡ true → Along s p.end (record { skipped = t.skipped; restated = t.restated + (p.end - at); saved = t.saved })
-    restate e =
-        stepped _ _ (subst (λ k. count_of w ≡ count_as k p.id v w) (fate true e) adds) (omega arith) (omega (arith, long)) (omega arith) (omega (arith, long))
+    pub restate : restates (place_of p.id) x.kept ≡ true → (u : Sums) → u.skipped ≡ t.skipped → u.restated ≡ t.restated + (p.end - at) → u.saved ≡ t.saved → Along s p.end u
+    restate e u a b d =
+        stepped _ u (subst (λ k. count_of w ≡ count_as k p.id v w) (fate true e) adds) (omega (arith, a)) (omega (arith, long, b)) (omega (arith, d)) (omega (arith, long))
 
     -- it saves no more than it has
     saved_all : p.saved + x.saved ≤ p.end - at
@@ -157,7 +157,7 @@ module _ (s : List ℕ) (at : ℕ) (p : Parameter) (h : at < length s) (q : acce
         let i = within s at p le q in
         omega (arith, a.within, saved_all, i.behind, i.start)
 
-    pub keep : restates (place_of p.id) x.kept ≡ false → Along s p.end (record { skipped = t.skipped; restated = t.restated; saved = t.saved + (p.saved + x.saved) })
-    keep e =
+    pub keep : restates (place_of p.id) x.kept ≡ false → (u : Sums) → u.skipped ≡ t.skipped → u.restated ≡ t.restated → u.saved ≡ t.saved + (p.saved + x.saved) → Along s p.end u
+    keep e u a b d =
         let n : x.saved ≡ saved_value (kind_at (place_of p.id)) v = saved_held (kind_at (place_of p.id)) p.start v x held in
-        stepped _ _ (subst (λ k. count_of w ≡ count_as k p.id v w) (fate false e) adds) (omega arith) (omega arith) (omega (arith, o.head, n)) (omega (arith, o.head, n, saved_all))
+        stepped _ u (subst (λ k. count_of w ≡ count_as k p.id v w) (fate false e) adds) (omega (arith, a)) (omega (arith, b)) (omega (arith, o.head, n, d)) (omega (arith, o.head, n, saved_all))

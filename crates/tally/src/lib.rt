@@ -7,24 +7,30 @@ ghost use Rattle.tally.specs.Tally.{restates};
 
 use catalogue::DEFAULTS;
 
-/// Of an extension that is accepted, in bytes: its tidied length; the parameters that are skipped;
-/// those that restate a default; what shortest forms would have saved in the others. And how many
-/// known parameters it names.
+/// Where the bytes of an accepted extension go, and how many known parameters it names.
 #[repr(C)]
 #[derive(Clone, Copy, Debug, PartialEq, Eq)]
 pub struct Counts {
+    /// its tidied length, in bytes
     pub tidied: usize,
+    /// the bytes of parameters that are skipped
     pub skipped: usize,
+    /// the bytes of those that restate a default
     pub restated: usize,
+    /// the bytes that shortest forms would have saved in the others
     pub saved: usize,
+    /// how many known parameters it names
     pub named: usize,
 }
 
 /// What a scan adds up: the three of them that tidying drops.
 #[derive(Clone, Copy, Debug, PartialEq, Eq)]
 pub struct Sums {
+    /// skipped, in bytes
     pub skipped: usize,
+    /// restating a default, in bytes
     pub restated: usize,
+    /// saved by shorter forms, in bytes
     pub saved: usize,
 }
 

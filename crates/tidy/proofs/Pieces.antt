@@ -175,6 +175,14 @@ module _ (side : Side) (s : List ℕ) (f : Found) (hb : Bytes s) (e : indexed si
   pub tidied_pieces : (out : List ℕ) → store (joined (pieces s f)) out ≡ tidy side s out
   tidied_pieces out = ap (λ (bs : List ℕ). store bs out) whole ∙ sym (tidied side s out (record_kept s f) hb (read_recorded side s f e))
 
+-- as the code has them: of what is kept, the extension is that which was indexed
+pub few_kept : (side : Side) (s k : List ℕ) (f : Found) → Bytes s → accepted f ≡ indexed side s → k ≡ s → length (joined (pieces k f)) ≤ 385
+few_kept side s k f hb e l = rw l (few side s f hb (sym e))
+
+pub stored : (side : Side) (s out k : List ℕ) (f : Found) (o : Outcome ℕ × List ℕ) → Bytes s → accepted f ≡ indexed side s → k ≡ s
+    → o ≡ store (joined (pieces k f)) out → o ≡ tidy side s out
+stored side s out k f o hb e l h = h ∙ rw l (tidied_pieces side s f hb (sym e) out)
+
 pub not_read : (side : Side) (s out : List ℕ) (x : Fault) → refused x ≡ indexed side s
     → ◌≡◌ {A = Outcome ℕ × List ℕ} (refused (number_of (refused_with x)), out) (tidy side s out)
 unfolding tidy

@@ -1,5 +1,6 @@
--- What tidying writes, as it is found: from the numbers, and from where the values stand in the
--- extension.
+-- How the code goes about it: nothing to believe, since the contract of `tidy::tidy` is an equation
+-- with `tidy` (tidy/specs/Tidying.antt). What tidying writes, as it is found: from the numbers, and
+-- from where the values stand in the extension.
 use Rattle.std.specs.Prelude.{ℕ, ◌+◌, ◌-◌, List, ◌++◌, Bool, get_or, take, drop}
 use Rattle.marks.specs.Mark.{marked}
 use Rattle.catalogue.specs.Catalogue.{Kind, number, flag, cid, token, address, versions, reserved, places, id_at, kind_at}

@@ -47,7 +47,8 @@ fn put_at(place: usize, kept: &Kept, out: &mut [u8]) -> usize
 // The numbers of places 0 to 10, but for those that are the default. By place, since three tables
 // go by it.
 fn put_numbers(entries: &Entries, out: &mut [u8]) -> usize
-    ensures { (result, out.new, []) ≡ laid (each (due_number_at entries.now.kept) 11) 1 0 out.old [] }
+    ensures { (result, out.new, [])
+        ≡ laid (each (due_number_at entries.now.kept) 11) 1 0 out.old [] }
 {
     let mut at: usize = 0;
     for place in 0..NUMBERS {
@@ -58,8 +59,7 @@ fn put_numbers(entries: &Entries, out: &mut [u8]) -> usize
 }
 
 // What was found at the places from 12 on, behind the first `start` bytes. The last stands alone: a
-// loop over ten places is not unrolled, and tidying a typical extension takes 300 instructions
-// more.
+// loop over ten places is not unrolled.
 fn put_others(kept: &Kept, start: usize, out: &mut [u8]) -> usize
     requires { start ≤ length out.old }
     ensures { (result, out.new, [])
@@ -102,6 +102,7 @@ fn put_tidied(kept: &Kept, out: &mut [u8]) -> Result<usize, Refusal>
 }
 
 /// Tidies `src` to the front of `out`.
+#[tactic(auto, using(crate::proofs::Pieces::stored, crate::proofs::Pieces::few_kept))]
 pub fn tidy(side: Side, src: &[u8], out: &mut [u8]) -> Result<usize, Refusal>
     ensures { (outcome_of result, out.new) ≡ tidy side src.now out.old }
 {

@@ -43,6 +43,10 @@ module _ (a : ℕ) (v : List ℕ) where
   unfolding check_kind
   by_length k t i n e = rw (i, n, e)
 
+  pub versions_fit : fits versions v ≡ true → accepted (stands a) ≡ check_kind versions a v
+  unfolding illegal held_of
+  versions_fit h = by_length versions true refl refl (sym h)
+
   -- addresses
   address_open : check_kind address a v
       ≡ pick (all (leb 25 (length v) ∷ leb (id_length v) 20 ∷ leb (41 + id_length v) (length v) ∷ zeros (take 24 v) ∷ [])) (refused Illegal)
@@ -237,11 +241,11 @@ module _ (a len : ℕ) (x : Decoded) (rest : List ℕ) (room : 8 ≤ length rest
       go false p true q = absurd (omega (arith, leb-false x.count len p, eqb-true len x.count q))
       go false p false q = refl
 
-  pub wide : (p i j t : ℕ) (b : Bool) (o : Result Fault Held) → is_simple (kind_at p) ≡ true → i ≡ bool_byte (marked 0x1047ff p) → j ≡ bool_byte (marked 0x70000 p) → t ≡ bool_byte (eqb p 12)
+  wide_at : (p i j t : ℕ) (b : Bool) (o : Result Fault Held) → is_simple (kind_at p) ≡ true → i ≡ bool_byte (marked 0x1047ff p) → j ≡ bool_byte (marked 0x70000 p) → t ≡ bool_byte (eqb p 12)
       → b ≡ (leb (get_or (16 * t ∷ x.count ∷ []) i 0) len && leb len (get_or (16 * t ∷ x.count ∷ []) i 0 + 20 * j))
       → o ≡ judged b (record { kept = get_or (a ∷ x.value ∷ []) i 0; saved = get_or (0 ∷ x.saved ∷ []) i 0 }) → o ≡ check_value p a (take len rest)
   unfolding illegal fits held_of
-  wide p i j t b o s ei ej et eb eo = eo ∙ rw (eb, ei, ej, et, number_told p, cid_told p, token_told p) (go (kind_at p) s)
+  wide_at p i j t b o s ei ej et eb eo = eo ∙ rw (eb, ei, ej, et, number_told p, cid_told p, token_told p) (go (kind_at p) s)
     where
       go : (k : Kind) → is_simple k ≡ true
           → judged (leb (get_or (16 * bool_byte (is token k) ∷ x.count ∷ []) (bool_byte (is number k)) 0) len && leb len (get_or (16 * bool_byte (is token k) ∷ x.count ∷ []) (bool_byte (is number k)) 0 + 20 * bool_byte (is cid k)))
@@ -253,6 +257,22 @@ module _ (a len : ℕ) (x : Decoded) (rest : List ℕ) (room : 8 ≤ length rest
       go address s = cc
       go versions s = cc
       go reserved s = cc
+
+  -- of two numbers, the one that the test takes
+  one_of : (m : Bool) (i u v w : ℕ) → i ≡ bool_byte m → (i ≡ 1 → w ≡ v) → (i ≡ 0 → w ≡ u) → w ≡ get_or (u ∷ v ∷ []) i 0
+  one_of true i u v w e one zero = rw e (one e)
+  one_of false i u v w e one zero = rw e (zero e)
+
+  -- whatever the code makes of them
+  pub wide : (p i j t least kept saved : ℕ) (b : Bool) (o : Result Fault Held) → is_simple (kind_at p) ≡ true → i ≡ bool_byte (marked 0x1047ff p) → j ≡ bool_byte (marked 0x70000 p) → t ≡ bool_byte (eqb p 12)
+      → b ≡ (leb least len && leb len (least + 20 * j)) → o ≡ judged b (record { kept = kept; saved = saved })
+      → (i ≡ 1 → (least ≡ x.count) × (kept ≡ x.value) × (saved ≡ x.saved)) → (i ≡ 0 → (least ≡ 16 * t) × (kept ≡ a) × (saved ≡ 0)) → o ≡ check_value p a (take len rest)
+  wide p i j t least kept saved b o s ei ej et eb eo one zero =
+      let m = marked 0x1047ff p in
+      let l = one_of m i (16 * t) x.count least ei (λ e. (one e).0) (λ e. (zero e).0) in
+      let k = one_of m i a x.value kept ei (λ e. (one e).1) (λ e. (zero e).1) in
+      let d = one_of m i 0 x.saved saved ei (λ e. (one e).2) (λ e. (zero e).2) in
+      wide_at p i j t b o s ei ej et (eb ∙ ap (λ n. leb n len && leb len (n + 20 * j)) l) (eo ∙ ap (λ n. judged b (record { kept = n; saved = saved })) k ∙ ap (λ n. judged b (record { kept = get_or (a ∷ x.value ∷ []) i 0; saved = n })) d)
 
 -- A VALUE FOR A PLACE
 pub for_place : (p : ℕ) (k : Kind) (a : ℕ) (v : List ℕ) (o : Result Fault Held) → kind_at p ≡ k → o ≡ check_kind k a v → o ≡ check_value p a v

@@ -1,5 +1,7 @@
--- A value received for a place: a second copy, then one that is illegal, then one that does not
--- fit; and what is kept of one that is none of these.
+-- How the code goes about it: nothing to believe, since the contract of `reader::read` is an
+-- equation with `read` (reader/specs/Reading.antt). A value received for a place: a second copy,
+-- then one that is illegal, then one that does not fit; and what is kept of one that is none of
+-- these.
 use Rattle.std.specs.Prelude.{ℕ, List, Bool, true, false}
 use Rattle.refusal.specs.Outcome.{Result, accepted, refused, Outcome, pick}
 use Rattle.varint.specs.Number.{read_number}

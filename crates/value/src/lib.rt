@@ -19,11 +19,12 @@ use record::ResetToken;
 use varint::VarInt;
 use words::all_zero;
 
-/// What is kept of a value: the number that it holds, or where it starts; and how many bytes the
-/// shortest form of the number would have saved.
+/// What is kept of a value.
 #[derive(Clone, Copy, Debug, PartialEq, Eq)]
 pub struct Held {
+    /// the number that it holds or, of another kind, where it starts
     pub kept: u64,
+    /// how many bytes the shortest form of the number would have saved
     pub saved: usize,
 }
 
@@ -75,7 +76,7 @@ fn check_address(start: usize, v: &[u8]) -> Result<Held, Fault>
 }
 
 // Version information: that a version is zero is no fault of its parameter.
-#[tactic(auto, using(crate::proofs::Checks::by_length), unfolding(catalogue::specs::Catalogue::illegal, crate::specs::Value::held_of))]
+#[tactic(auto, using(crate::proofs::Checks::by_length, crate::proofs::Checks::versions_fit), unfolding(catalogue::specs::Catalogue::illegal, crate::specs::Value::held_of))]
 fn check_versions(start: usize, v: &[u8]) -> Result<Held, Fault>
     ensures { fault_outcome result ≡ check_kind versions start v.now }
 {
@@ -116,13 +117,16 @@ fn check_narrow(place: usize, start: usize, v: &[u8]) -> Result<Held, Fault>
     Err(Fault::Misfit)
 }
 
-/// A value received: for which place, where it starts in the extension, and its bytes, the first
-/// `len` of `rest` or all that are there.
+/// A value received for a place.
 #[derive(Clone, Copy)]
 pub struct Received<'a> {
+    /// the place
     pub place: usize,
+    /// where it starts in the extension
     pub start: usize,
+    /// how many bytes of `rest` it has: all, if there are fewer
     pub len: usize,
+    /// the bytes from its start on
     pub rest: &'a [u8],
 }
 

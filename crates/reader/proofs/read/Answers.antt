@@ -1,13 +1,7 @@
 -- `reader::read` meets its contract: what is kept, as a record. Assumes nothing.
 use Rattle.refusal.proofs.Laws.{raised}
-use Rattle.reader.proofs.Indexed.{read_stopped, read_kept}
+use Rattle.reader.proofs.Indexed.{read_stopped}
 use Rattle.reader.proofs.read.Goals as goal
 
 pub returns-in_err-kept : goal.returns-in_err-kept
 returns-in_err-kept c = let a = c.args in rw (raised _ _ c.from_residual.ensures.1) (read_stopped a.side a.src.now _ c.in_err-kept.ensures.found)
-
-pub returns : goal.returns
-returns c =
-    let a = c.args in
-    let e = c.in_ok-kept.ensures in
-    read_kept a.side a.src.now _ _ (rw e.lent at c.record_of.ensures) e.found

@@ -24,4 +24,4 @@ returns c =
     let e = c.args.src.now in
     let hb : Bytes e = λ i. (c.type_inv.src i).fits in
     let t = taken s e hb _ _ c.in_ok-marks.ensures in
-    is_report s e hb _ _ c.in_ok-marks.ensures _ _ (omega (arith, t)) refl
+    is_report s e hb _ _ c.in_ok-marks.ensures _ _ _ _ _ (omega (arith, t)) (omega arith) (omega arith) (omega arith) (omega arith)

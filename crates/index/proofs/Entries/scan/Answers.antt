@@ -1,8 +1,8 @@
 -- `index::Entries::scan` meets its contract. The invariant: from here on, with what is kept so far,
 -- the outcome is that of the whole input; the sums so far and those of what is left are the
 -- whole's. Assumes nothing.
-use Prim.Native.Nat.{◌+◌, ◌-◌, ◌≤◌, ◌<◌}
-use mathlib.Core.Path.{◌≡◌, refl, ap, sym, ◌∙◌, subst}
+use Prim.Native.Nat.{◌≤◌, ◌<◌}
+use mathlib.Core.Path.{◌≡◌, refl, ap, sym, ◌∙◌}
 use native.Mathlib.Omega.{arith}
 use borrow.Author.Tests.{lt-ltb}
 use lib.ListN.{length}
@@ -19,7 +19,7 @@ use Rattle.index.proofs.Turn.{value_lent, known, stop, cut_off, passed, faulty, 
 use Rattle.index.proofs.Sound.{between_length}
 use mathlib.Core.Bool.{true, false}
 use Rattle.tally.specs.Tally.{restates}
-use Rattle.tally.proofs.Along.{Along, start, skip, restate, keep as keep_sums, kept_within, done}
+use Rattle.tally.proofs.Along.{start, skip, restate, keep as keep_sums, kept_within, done}
 use Rattle.index.proofs.Entries.scan.Goals.{In_ok-id, In_ok-x}
 use Rattle.index.proofs.Entries.scan.Given.{Over}
 use Rattle.index.proofs.Entries.scan.Goals as goal
@@ -92,9 +92,7 @@ loop-at-preserved-then-restates g c =
       k.2,
       rw (k.3, marked_more g i, ← between_length c.args.src.now _ _ k.4 k.5) (gone g i k.0 k.1),
       rw k.3
-          (subst (λ a. Along c.args.src.now c.in_ok-id.field-0.end (record { skipped = l.sums.skipped; restated = l.sums.restated + (c.in_ok-id.field-0.end - a); saved = l.sums.saved }))
-          (sym k.6)
-          (restate c.args.src.now l.at-iterator.at _ k.0 k.1 l.sums l.invariant.2 _ c.in_ok-x.x (known_here g i) (received g i) e)),
+          (restate c.args.src.now l.at-iterator.at _ k.0 k.1 l.sums l.invariant.2 _ c.in_ok-x.x (known_here g i) (received g i) e _ (omega (arith, k.6)) (omega (arith, k.6)) (omega (arith, k.6))),
     )
 
 pub loop-at-preserved-else-restates : goal.loop-at-preserved-else-restates
@@ -106,7 +104,8 @@ loop-at-preserved-else-restates g c =
     let e : restates (place_of c.in_ok-id.field-0.id) c.in_ok-x.x.kept ≡ false = rw (← c.place_of-place.ensures) (sym c.restates.ensures ∙ c.if-restates.false) in (
       k.2,
       rw (k.3, marked_more g i, ← between_length c.args.src.now _ _ k.4 k.5) (gone g i k.0 k.1),
-      rw k.3 (keep_sums c.args.src.now l.at-iterator.at _ k.0 k.1 l.sums l.invariant.2 _ c.in_ok-x.x (known_here g i) (received g i) e),
+      rw k.3
+          (keep_sums c.args.src.now l.at-iterator.at _ k.0 k.1 l.sums l.invariant.2 _ c.in_ok-x.x (known_here g i) (received g i) e _ (omega (arith, k.6)) (omega (arith, k.6)) (omega (arith, k.6))),
     )
 
 -- it saves no more than it has
@@ -132,9 +131,7 @@ loop-at-preserved g c =
       k.2,
       rw k.3 (sym (passed c.args.src.now (found_of l.self) l.at-iterator.at _ k.0 k.1 n) ∙ l.invariant.1),
       rw k.3
-          (subst (λ a. Along c.args.src.now c.in_ok-id.field-0.end (record { skipped = l.sums.skipped + (c.in_ok-id.field-0.end - a); restated = l.sums.restated; saved = l.sums.saved }))
-          (sym k.6)
-          (skip c.args.src.now l.at-iterator.at _ k.0 k.1 l.sums l.invariant.2 n)),
+          (skip c.args.src.now l.at-iterator.at _ k.0 k.1 l.sums l.invariant.2 n _ (omega (arith, k.6)) (omega (arith, k.6)) (omega (arith, k.6))),
     )
 
 pub returns : goal.returns

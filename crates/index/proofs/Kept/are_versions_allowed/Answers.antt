@@ -9,6 +9,3 @@ use Rattle.index.proofs.Kept.are_versions_allowed.Goals as goal
 pub returns-then-not-is_met : goal.returns-then-not-is_met
 unfolding value_at versions_in no_versions version_rules
 returns-then-not-is_met c = rw (sym c.is_met.ensures ∙ c.if-not-is_met.true)
-
-pub returns : goal.returns
-returns c = rw (← c.versions.ensures) c.versions_allowed.ensures

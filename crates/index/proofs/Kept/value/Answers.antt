@@ -1,13 +1,12 @@
 -- `index::Kept::value` meets its contract: the tests that led to each `return` pick the case.
 -- Assumes nothing.
-use Prim.Native.Nat.{◌+◌, ◌-◌, ◌≤◌}
-use lib.ListN.{length, get_or, take, drop}
-use mathlib.Core.Path.{◌≡◌, ap, sym, ◌∙◌}
-use mathlib.Core.Option.{some}
+use Prim.Native.Nat.{◌+◌, ◌≤◌}
+use lib.ListN.{length, get_or}
+use mathlib.Core.Path.{sym, ◌∙◌}
 use native.Mathlib.Omega.{arith}
 use Rattle.value.proofs.Checks.{not_number_at}
 use Rattle.index.specs.Answer.{found_of}
-use Rattle.index.proofs.Parts.{none_outside, none_number, none_unmet, there}
+use Rattle.index.proofs.Parts.{none_outside, none_number}
 use Rattle.index.proofs.Kept.value.Goals.{After-from}
 use Rattle.index.proofs.Kept.value.Goals as goal
 
@@ -21,19 +20,8 @@ returns-then-place-ge-PLACES c = none_outside _ _ _ c.if-place-ge-PLACES.true
 pub returns-then-is_marked : goal.returns-then-is_marked
 returns-then-is_marked c = none_number c.args.self.now.src.now (found_of c.args.self.now.entries) c.args.place (sym c.is_marked.ensures ∙ c.if-is_marked.true)
 
-pub returns-then-not-is_met : goal.returns-then-not-is_met
-returns-then-not-is_met c = none_unmet c.args.self.now.src.now (found_of c.args.self.now.entries) c.args.place (sym c.is_met.ensures ∙ c.if-not-is_met.true)
-
 pub overflow_add-end : goal.overflow_add-end
 overflow_add-end c = omega (arith, ends c)
 
 pub slice_bounds-result-end : goal.slice_bounds-result-end
 slice_bounds-result-end c = omega (arith, ends (goal.at.slice_bounds-result-end c).After-from)
-
-pub returns : goal.returns
-returns c =
-    let e = c.args.self.now.entries in
-    let start = get_or e.kept c.args.place 0 in
-    let n : start + c.from.result - start ≡ get_or e.lens c.args.place 0 = omega (arith, c.from.ensures) in
-    ap (λ n. some (take n (drop start c.args.self.now.src.now))) n
-    ∙ there c.args.self.now.src.now (found_of e) c.args.place c.if-place-ge-PLACES.false (sym c.is_marked.ensures ∙ c.if-is_marked.false) (sym c.is_met.ensures ∙ c.if-not-is_met.false)

@@ -11,4 +11,4 @@ returns c =
     let w = c.decode_wide-x in
     let i = c.from-is_number.ensures ∙ ap bool_byte c.is_marked.ensures in
     let j = c.from-is_cid.ensures ∙ ap bool_byte c.is_marked-2.ensures in
-    wide a.start a.len w.result a.rest.now c.requires.0 c.requires.1 w.ensures.0 a.place _ _ _ _ _ c.requires.2 i j c.from-is_token.ensures refl c.fits_if.ensures
+    wide a.start a.len w.result a.rest.now c.requires.0 c.requires.1 w.ensures.0 a.place _ _ _ _ _ _ _ _ c.requires.2 i j c.from-is_token.ensures refl c.fits_if.ensures (λ e. (rw e refl, rw e refl, rw e refl)) (λ e. (rw e refl, rw e refl, rw e refl))
