@@ -208,8 +208,8 @@ pub fn note_reading(out: &mut Out, side: Side, r: Refusal, src: &[u8])
     note_cause(out, side, c);
 }
 
-/// Says the cause alone, of the extension of a record that is not legal for a side. If the extension
-/// is accepted, no value rule is broken: then a family that is given is all zero.
+/// Says the cause alone, of the extension of a record that is not legal for a side. If the
+/// extension is accepted, no value rule is broken: then a family that is given is all zero.
 #[tactic(auto, using(text::proofs::Printing::unchanged, text::proofs::Printing::becomes_then))]
 pub fn note_culprit(out: &mut Out, side: Side, src: &[u8])
     ensures { Becomes Stream.Error out.old.fate out.new.fate }

@@ -81,8 +81,8 @@ impl Display for Limit {
     }
 }
 
-/// Says which limits a record reduces, by its image and that of the remembered one: a line for each,
-/// with what it was and what it is.
+/// Says which limits a record reduces, by its image and that of the remembered one: a line for
+/// each, with what it was and what it is.
 #[tactic(auto, using(text::proofs::Printing::unchanged, text::proofs::Printing::becomes_then))]
 pub fn note_reduced(out: &mut Out, new: &[u8], cached: &[u8])
     ensures { Becomes Stream.Error out.old.fate out.new.fate }

@@ -15,7 +15,9 @@ is_reserved v = every ends_in_a (bytes_of 4 v)
 
 -- version 1 (RFC 9000), version 2 (RFC 9369), and the reserved ones; others have none
 unfoldable pub version_name : ℕ → Option VersionName
-version_name v = pick (eqb v 1) (Some V1) (pick (eqb v 0x6b3343cf) (Some V2) (pick (is_reserved v) (Some Reserved) None))
+version_name v =
+    pick (eqb v 1) (Some V1)
+    (pick (eqb v 0x6b3343cf) (Some V2) (pick (is_reserved v) (Some Reserved) None))
 
 abbrev pub name_text : VersionName → List ℕ
 name_text V1 = codes "v1"

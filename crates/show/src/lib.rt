@@ -152,8 +152,8 @@ fn show_parts(out: &mut Out, image: &[u8])
 }
 
 /// Shows the record of an image: the places of the catalogue, without the reserved parameter's; the
-/// parts of an address behind it, if it is there. What a stream is given has no definition here: the
-/// clause says what becomes of the answer.
+/// parts of an address behind it, if it is there. What a stream is given has no definition here:
+/// the clause says what becomes of the answer.
 #[tactic(auto, using(text::proofs::Printing::unchanged, text::proofs::Printing::becomes_then))]
 pub fn show(out: &mut Out, image: &[u8])
     ensures { Becomes Stream.Output out.old.fate out.new.fate }

@@ -33,7 +33,8 @@ id_in (accepted i) = i.0
 id_in (refused f) = 0
 
 abbrev pub waster_of : List ℕ → Waster
-waster_of w = record { id = id_in (read_parameter w); len = length w; wasted = waste_of (count_of w) }
+waster_of w =
+    record { id = id_in (read_parameter w); len = length w; wasted = waste_of (count_of w) }
 
 abbrev pub wastes : Waster → Bool
 wastes x = ltb 0 x.wasted.bytes
