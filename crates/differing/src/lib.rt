@@ -19,8 +19,11 @@ type CidImage = [u8; CID_SIZE];
 /// them; none without a Retry.
 #[derive(Clone, Copy)]
 pub struct SeenImages {
+    /// the Source Connection ID of the peer's first Initial
     pub initial_src_cid: CidImage,
+    /// the Destination Connection ID of the client's first Initial
     pub original_dst_cid: CidImage,
+    /// the Source Connection ID of the Retry, if there was one
     pub retry_src_cid: Option<CidImage>,
 }
 
@@ -65,7 +68,8 @@ fn note_id(out: &mut Out, place: usize, has: Option<CidImage>, seen: Option<CidI
     }
 }
 
-/// The IDs of a record, of those that a side looks at, that are not the ones seen.
+/// Says which IDs of a record, by its image, are not the ones seen, of those that a side looks at:
+/// a line for each, with both.
 #[tactic(auto, using(text::proofs::Printing::unchanged, text::proofs::Printing::becomes_then))]
 pub fn note_differing(out: &mut Out, side: Side, record: &[u8], seen: &SeenImages)
     ensures { Becomes Stream.Error out.old.fate out.new.fate }
@@ -77,7 +81,7 @@ pub fn note_differing(out: &mut Out, side: Side, record: &[u8], seen: &SeenImage
     }
 }
 
-/// The IDs seen that are too long.
+/// Says which of the IDs seen are too long: over 20 bytes by their length.
 #[tactic(auto, using(text::proofs::Printing::unchanged, text::proofs::Printing::becomes_then))]
 pub fn note_too_long(out: &mut Out, seen: &SeenImages)
     ensures { Becomes Stream.Error out.old.fate out.new.fate }

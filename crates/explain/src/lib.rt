@@ -15,7 +15,8 @@ use front::{Fault, Parameter, Parameters};
 use marks::{is_marked, with_mark};
 use refusal::Refusal;
 use rules::Side;
-use text::out::{Count, Out};
+use text::out::Out;
+use text::shown::Count;
 use value::Received;
 use varint::VarInt;
 use version_information::VersionInformation;
@@ -30,6 +31,7 @@ struct Culprit<'a> {
     fault: Fault,
 }
 
+/// Says a refusal: its number and its words.
 pub fn note_refusal(out: &mut Out, r: Refusal)
     ensures { Becomes Stream.Error out.old.fate out.new.fate }
 {
@@ -186,7 +188,8 @@ fn note_cut(out: &mut Out, rest: &[u8])
     out.note(format_args!("cut off within its value, {left} of {len}\n"));
 }
 
-/// A refusal of reading, and its cause.
+/// Says a refusal of reading an extension for a side, and its cause: at which byte the parameter at
+/// fault starts, which one it is, and what is wrong with it.
 #[tactic(auto, using(text::proofs::Printing::unchanged, text::proofs::Printing::becomes_then))]
 pub fn note_reading(out: &mut Out, side: Side, r: Refusal, src: &[u8])
     ensures { Becomes Stream.Error out.old.fate out.new.fate }
@@ -205,8 +208,8 @@ pub fn note_reading(out: &mut Out, side: Side, r: Refusal, src: &[u8])
     note_cause(out, side, c);
 }
 
-/// The cause alone, of a record's extension. If the extension is accepted, no value rule is broken:
-/// then a family that is given is all zero.
+/// Says the cause alone, of the extension of a record that is not legal for a side. If the
+/// extension is accepted, no value rule is broken: then a family that is given is all zero.
 #[tactic(auto, using(text::proofs::Printing::unchanged, text::proofs::Printing::becomes_then))]
 pub fn note_culprit(out: &mut Out, side: Side, src: &[u8])
     ensures { Becomes Stream.Error out.old.fate out.new.fate }
@@ -218,7 +221,8 @@ pub fn note_culprit(out: &mut Out, side: Side, src: &[u8])
     }
 }
 
-/// The first fault of an order: its position and, unless entries are only missing, the entry there.
+/// Says the first fault of an order: its position and, unless entries are only missing, the entry
+/// there; nothing of an order without fault.
 #[tactic(auto, using(text::proofs::Printing::unchanged, text::proofs::Printing::becomes_then))]
 pub fn note_order_fault(out: &mut Out, order: &[u8])
     ensures { Becomes Stream.Error out.old.fate out.new.fate }

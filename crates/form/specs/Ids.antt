@@ -28,4 +28,6 @@ abbrev pub of_hex : Result ℕ HexError × List ℕ → Result (List ℕ) Compla
 of_hex h = counted (count_of h.0) h.1
 
 unfoldable pub cid_said : List ℕ → Result (List ℕ) Complaint
-cid_said digits = pick (same_bytes digits empty_word) (Ok (replicate 21 0)) (of_hex (hex_stored digits 1 20 (replicate 21 0)))
+cid_said digits =
+    pick (same_bytes digits empty_word) (Ok (replicate 21 0))
+    (of_hex (hex_stored digits 1 20 (replicate 21 0)))

@@ -22,20 +22,36 @@ use version_information::VersionInformation;
 /// What may be amiss in a line.
 #[derive(Clone, Copy, Debug, PartialEq, Eq)]
 pub enum Complaint {
+    /// no row has its name
     Name,
+    /// its row was met before
     Again,
+    /// no decimal number below 2^64, or an identifier that is none
     Number,
+    /// no hexadecimal text of whole bytes
     Digits,
+    /// no token: 16 bytes in hexadecimal
     Token,
+    /// a flag with another value than none, set or present
     Flag,
+    /// no address of its family, or no port
     Address,
+    /// no order: 22 decimal numbers below 256
     Order,
+    /// a version that is none, or none where one is needed
     Version,
+    /// more than 16 available versions
     ManyVersions,
+    /// words behind the value
     More,
 }
 
 impl Display for Complaint {
+    ghost use Rattle.std.specs.Prelude.{Some};
+    ghost use Rattle.form.specs.Complaints.{complaint_text};
+
+    ghost output = { λ complaint. Some (complaint_text complaint) };
+
     fn fmt<W: fmt::Write>(&self, f: &mut fmt::Formatter<W>) -> fmt::Result {
         match self {
             Complaint::Name => write!(f, "no such name"),
@@ -61,6 +77,11 @@ pub struct Slip {
 }
 
 impl Display for Slip {
+    ghost use Rattle.std.specs.Prelude.{Some};
+    ghost use Rattle.form.specs.Complaints.{slip_text};
+
+    ghost output = { λ slip. Some (slip_text slip) };
+
     fn fmt<W: fmt::Write>(&self, f: &mut fmt::Formatter<W>) -> fmt::Result {
         let line = self.line;
         let what = self.what;
@@ -97,7 +118,8 @@ fn put_counted(digits: &[u8], out: &mut [u8], at: usize, room: usize) -> Result<
     Ok(())
 }
 
-/// The image of the connection ID that a word says.
+/// The image of the connection ID that a word says: its length, and 20 bytes of which so many are
+/// used. A length of 255 stands for too many bytes, which every operation refuses.
 #[tactic(auto, using(crate::proofs::Words::said, crate::proofs::Words::not_said), unfolding(crate::specs::Ids::cid_said))]
 pub fn cid_image_of(digits: &[u8]) -> Result<[u8; CID_SIZE], Complaint>
     ensures { result ≡ cid_said digits.now }
@@ -264,7 +286,8 @@ fn put_lines(text: &[u8], out: &mut [u8]) -> Result<(), Slip>
     Ok(())
 }
 
-/// The image of the record that a text says, if each line is understood.
+/// The image of the record that a text says, if each line is understood; otherwise the first line
+/// that is not. What no line says is as in the default record. The record need not be well formed.
 pub fn image_of(text: &[u8]) -> Result<[u8; RECORD_SIZE], Slip>
     ensures { IfErr result (λ slip. 0 < slip.line) }
 {

@@ -12,8 +12,14 @@ abbrev pub columns_of : ℕ → ℕ → ℕ
 columns_of part whole = max (min part 1) (share_of 40 part whole)
 
 abbrev pub part_of : ℕ → ℕ → Part
-part_of whole part = record { bytes = part; percent = share_of 100 part whole; columns = columns_of part whole }
+part_of whole part = record {
+  bytes = part;
+  percent = share_of 100 part whole;
+  columns = columns_of part whole;
+}
 
 -- what is tidied, skipped, restated and saved of an extension that is so long
 abbrev pub parts_of : ℕ → Counts → List Part
-parts_of whole c = part_of whole c.tidied ∷ part_of whole c.skipped ∷ part_of whole c.restated ∷ part_of whole c.saved ∷ []
+parts_of whole c =
+    part_of whole c.tidied ∷ part_of whole c.skipped ∷ part_of whole c.restated
+    ∷ part_of whole c.saved ∷ []

@@ -72,7 +72,7 @@ fn share(n: usize, part: usize, whole: usize) -> usize
     ((n as u128 * part + all / 2) / all) as usize
 }
 
-/// How many columns the bar of a part has.
+/// How many columns the bar of a part of a whole, both in bytes, has.
 pub fn columns(part: usize, whole: usize) -> usize
     ensures columns { result ≡ columns_of part whole }
     ensures most { result ≤ 40 }
@@ -90,7 +90,8 @@ fn part_of(whole: usize, part: usize) -> Part
     }
 }
 
-/// The parts of an extension: what is tidied, skipped, restated and saved.
+/// The parts of an extension, by the counts of its report: what is tidied, skipped, restated and
+/// saved.
 pub fn parts_of(src: &[u8], counts: Counts) -> [Part; 4]
     ensures { result ≡ parts_of (length src.now) counts }
 {
@@ -166,7 +167,8 @@ fn show_wasters(out: &mut Out, wasters: &[Waster])
     }
 }
 
-/// The picture of a report on an extension.
+/// Shows the picture of a report on an extension: its parts, and the ten parameters that waste
+/// most.
 #[tactic(auto, using(text::proofs::Printing::becomes_then, crate::proofs::Printing::becomes_output))]
 pub fn show(out: &mut Out, alloc: Global, src: &[u8], counts: Counts)
     ensures { Becomes Stream.Output out.old.fate out.new.fate }

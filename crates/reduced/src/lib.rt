@@ -1,8 +1,10 @@
 // Says which limits a record reduces that is resumed to from a remembered one, by their images.
 #![tactic(auto)]
 
+ghost use Rattle.std.specs.Prelude.{◌≡◌};
 ghost use Rattle.text.specs.declared.out.Stream.{Stream};
 ghost use Rattle.text.specs.Printing.{Becomes};
+ghost use Rattle.reduced.specs.Limits.{size_of};
 
 use catalogue::{
     ACTIVE_CONNECTION_ID_LIMIT, GREASE_QUIC_BIT, INITIAL_MAX_DATA,
@@ -18,8 +20,7 @@ use text::out::Out;
 use words::bytes_at;
 
 // What is remembered for 0-RTT, by place: what the definition of resumption looks at (`remembered`,
-// `nothing_reduced`). Resumption has a list of its own: it is private, and of the plain numbers
-// alone.
+// `nothing_reduced`). Resumption's own list is of the plain numbers alone.
 const REMEMBERED: [usize; 9] = [
     INITIAL_MAX_DATA,
     INITIAL_MAX_STREAM_DATA_BIDI_LOCAL,
@@ -40,6 +41,7 @@ enum Limit {
     Flag(bool),
 }
 
+// What an image says of a row: of a flag whether it is set, of another value the number there.
 fn limit_in(row: Row, image: &[u8]) -> Limit {
     let flag = row.flag_at().map(|at| byte(image, at, 0) == 1);
     match (row.0, flag) {
@@ -51,8 +53,10 @@ fn limit_in(row: Row, image: &[u8]) -> Limit {
 
 impl Limit {
     // Less is reduced: what is absent is as little as 0, and a flag that is set is more than one
-    // that is not. By a derived order it would be less than 0.
-    fn size(self) -> u64 {
+    // that is not.
+    fn size(self) -> u64
+        ensures { result ≡ size_of self }
+    {
         match self {
             Limit::Absent => 0,
             Limit::Number(n) => n,
@@ -62,6 +66,11 @@ impl Limit {
 }
 
 impl Display for Limit {
+    ghost use Rattle.std.specs.Prelude.{Some};
+    ghost use Rattle.reduced.specs.Limits.{limit_text};
+
+    ghost output = { λ limit. Some (limit_text limit) };
+
     fn fmt<W: fmt::Write>(&self, f: &mut fmt::Formatter<W>) -> fmt::Result {
         match *self {
             Limit::Absent => write!(f, "absent"),
@@ -72,8 +81,8 @@ impl Display for Limit {
     }
 }
 
-/// The limits that a record reduces, by its image and that of the remembered one: what each was,
-/// and what it is.
+/// Says which limits a record reduces, by its image and that of the remembered one: a line for
+/// each, with what it was and what it is.
 #[tactic(auto, using(text::proofs::Printing::unchanged, text::proofs::Printing::becomes_then))]
 pub fn note_reduced(out: &mut Out, new: &[u8], cached: &[u8])
     ensures { Becomes Stream.Error out.old.fate out.new.fate }

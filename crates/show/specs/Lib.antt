@@ -1,1 +1,3 @@
+pub mod Ids
+pub mod Rows
 pub mod Versions

@@ -5,6 +5,7 @@
 pub mod rows;
 pub mod versions;
 
+ghost use Rattle.std.specs.Prelude.{◌≡◌, take, drop};
 ghost use Rattle.text.specs.declared.out.Stream.{Stream};
 ghost use Rattle.text.specs.Printing.{Becomes};
 
@@ -13,7 +14,8 @@ use rows::{ADDRESS_FLAG, Kind, ROWS, Row, Unit, name_of};
 use std::fmt;
 use std::fmt::Display;
 use text::byte;
-use text::out::{HexBytes, Out};
+use text::out::Out;
+use text::shown::HexBytes;
 use versions::Versions;
 use words::bytes_at;
 
@@ -22,16 +24,23 @@ fn is_set(image: &[u8], at: usize) -> bool {
 }
 
 // The `n` bytes at a place, as far as they are there.
-fn part<'a>(image: &'a [u8], at: usize, n: usize) -> &'a [u8] {
+fn part<'a>(image: &'a [u8], at: usize, n: usize) -> &'a [u8]
+    ensures { result.now ≡ take n (drop at image.now) }
+{
     let rest = image.get(at..).unwrap_or(&[]);
     rest.get(..n).unwrap_or(rest)
 }
 
-/// An ID, behind its length.
+/// An ID behind its length, as the image of a record has it.
 #[derive(Clone, Copy)]
 pub struct ConnectionId<'a>(pub &'a [u8]);
 
 impl<'a> Display for ConnectionId<'a> {
+    ghost use Rattle.std.specs.Prelude.{Some};
+    ghost use Rattle.show.specs.Ids.{cid_text};
+
+    ghost output = { λ id. Some (cid_text id.0.now) };
+
     fn fmt<W: fmt::Write>(&self, f: &mut fmt::Formatter<W>) -> fmt::Result {
         match self.0.split_first() {
             None | Some((0, _)) => write!(f, "(empty)"),
@@ -142,9 +151,9 @@ fn show_parts(out: &mut Out, image: &[u8])
     }
 }
 
-/// The places of the catalogue, without the reserved parameter's; the parts of an address behind
-/// it, if it is there. What a stream is given has no definition here: the clause says what becomes
-/// of the answer.
+/// Shows the record of an image: the places of the catalogue, without the reserved parameter's; the
+/// parts of an address behind it, if it is there. What a stream is given has no definition here:
+/// the clause says what becomes of the answer.
 #[tactic(auto, using(text::proofs::Printing::unchanged, text::proofs::Printing::becomes_then))]
 pub fn show(out: &mut Out, image: &[u8])
     ensures { Becomes Stream.Output out.old.fate out.new.fate }

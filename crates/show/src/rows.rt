@@ -2,14 +2,16 @@
 // and the order; their names, what each holds, and where it stands in the image of a record.
 ghost use Rattle.std.specs.Prelude.{◌≡◌, ◌<◌, ◌++◌, [], map, IfSome};
 ghost use Rattle.std.specs.List.{slice_index_or};
+ghost use Rattle.show.specs.Rows.{flag_of};
 
 use catalogue::{NAMES, PLACES};
 use std::fmt;
 use std::fmt::Display;
 
-/// The unit of a number.
+/// The unit of a number, which is printed behind it.
 #[derive(Clone, Copy)]
 pub enum Unit {
+    /// none, of which nothing is printed
     Plain,
     Milliseconds,
     Microseconds,
@@ -19,6 +21,11 @@ pub enum Unit {
 }
 
 impl Display for Unit {
+    ghost use Rattle.std.specs.Prelude.{Some};
+    ghost use Rattle.show.specs.Rows.{unit_text};
+
+    ghost output = { λ unit. Some (unit_text unit) };
+
     fn fmt<W: fmt::Write>(&self, f: &mut fmt::Formatter<W>) -> fmt::Result {
         match self {
             Unit::Plain => Ok(()),
@@ -38,20 +45,27 @@ pub enum Kind {
     Number(Unit),
     /// one that may be absent
     OptionalNumber(Unit),
+    /// set or not, without a value
     Flag,
     /// whether there is a preferred address; its parts have rows of their own
     Address,
+    /// 16 bytes
     Token,
+    /// its length, and 20 bytes of which so many are used
     ConnectionId,
     /// an identifier, and a payload behind its length
     Reserved,
     /// the chosen version and sixteen places of available ones, behind how many of these there are
     Versions,
-    /// the parts of an address
+    /// a part of an address: 4 bytes, and a port of 2
     V4,
+    /// 16 bytes, and a port of 2
     V6,
+    /// as of a connection ID
     AddressId,
+    /// as of a token
     AddressToken,
+    /// the places, a byte each, in the order of writing
     Order,
 }
 
@@ -66,6 +80,7 @@ pub const ORDER_AT: usize = 282;
 pub struct Row(pub Kind, u16);
 
 impl Row {
+    /// Where its value starts in the image.
     pub fn value_at(self) -> usize
         ensures { (result ≡ self.1) × (result < 65536) }
     {
@@ -75,7 +90,8 @@ impl Row {
     /// Where its flag stands, if it may be absent: before its value, but the ID and the token of an
     /// address have the address's.
     pub fn flag_at(self) -> Option<usize>
-        ensures { IfSome result (λ at. at < 65536) }
+        ensures flag { result ≡ flag_of self.0 self.1 }
+        ensures within { IfSome result (λ at. at < 65536) }
     {
         match self.0 {
             Kind::Number(_) => None,
@@ -85,7 +101,7 @@ impl Row {
     }
 }
 
-/// The places of the catalogue come first, each at its place.
+/// The rows. The places of the catalogue come first, each at its place.
 pub const ROWS: [Row; 27] = [
     Row(Kind::Number(Unit::Milliseconds), 0),
     Row(Kind::Number(Unit::Bytes), 8),
@@ -116,8 +132,8 @@ pub const ROWS: [Row; 27] = [
     Row(Kind::Order, ORDER_AT as u16),
 ];
 
-// The names of those behind the places. A row holds no name of its own: a constant cannot take
-// `NAMES[0]`, and the catalogue's names would stand here again.
+// The names of those behind the places. A row holds no name of its own: the catalogue's names would
+// stand here again.
 const PART_NAMES: [&str; 5] = [
     "preferred_address_v4",
     "preferred_address_v6",
@@ -139,7 +155,7 @@ pub fn name_of(i: usize) -> &'static str
     }
 }
 
-/// The row of this name, and its number.
+/// The row of this name, and its number; none if no row has the name.
 pub fn row_named(name: &[u8]) -> Option<(usize, Row)>
     ensures row { IfSome result
         (λ found. (found.0 < 27) × (found.1 ≡ slice_index_or ROWS found.0 found.1)) }

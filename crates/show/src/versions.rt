@@ -6,14 +6,23 @@ use std::fmt;
 use std::fmt::Display;
 use words::bytes_at;
 
+/// What a version is called.
 #[derive(Clone, Copy, Debug, PartialEq, Eq)]
 pub enum VersionName {
+    /// RFC 9000
     V1,
+    /// RFC 9369
     V2,
+    /// one that exercises the negotiation of versions (RFC 9000 section 15)
     Reserved,
 }
 
 impl Display for VersionName {
+    ghost use Rattle.std.specs.Prelude.{Some};
+    ghost use Rattle.show.specs.Versions.{name_text};
+
+    ghost output = { λ name. Some (name_text name) };
+
     fn fmt<W: fmt::Write>(&self, f: &mut fmt::Formatter<W>) -> fmt::Result {
         match self {
             VersionName::V1 => write!(f, "v1"),
@@ -57,7 +66,8 @@ impl Display for Version {
     }
 }
 
-/// The chosen version and those that are available, behind how many of these there are.
+/// The chosen version and those that are available, behind how many of these there are, as the
+/// image of a record has them: each in four bytes, high byte first.
 #[derive(Clone, Copy)]
 pub struct Versions<'a>(pub &'a [u8]);
 

@@ -1,3 +1,4 @@
+mod HexDigits
 pub mod Decimals
 pub mod HexNumbers
 pub mod Hexes

@@ -1,7 +1,7 @@
 -- What becomes of the writes so far, by several. Assumes nothing.
 --     unchanged         by none
 --     becomes_then      by one after another
-use mathlib.Core.Path.{◌≡◌, refl}
+use mathlib.Core.Path.{refl}
 use Rattle.text.specs.declared.out.Fate.{Fate}
 use Rattle.text.specs.declared.out.Fate.TheVariants.{Written, Cut, Unread}
 use Rattle.text.specs.declared.out.Stream.{Stream}

@@ -1,2 +1,3 @@
 pub mod Printing
 pub mod Text
+pub mod Shown

@@ -17,7 +17,9 @@ stored p b out = (ltb p (length out), set out p b)
 -- CHARACTERS
 -- what parts words: the end of a line alone, or any space and sep
 unfoldable pub is_gap : ℕ → ℕ → Bool
-is_gap sep b = pick (eqb sep 10) (eqb b sep) (eqb b 32 || (eqb b 9 || (eqb b 10 || (eqb b 13 || eqb b sep))))
+is_gap sep b =
+    pick (eqb sep 10) (eqb b sep)
+    (eqb b 32 || (eqb b 9 || (eqb b 10 || (eqb b 13 || eqb b sep))))
 
 abbrev pub in_range : ℕ → ℕ → ℕ → Bool
 in_range low high b = leb low b && leb b high
@@ -58,7 +60,9 @@ word_at sep (suc k) cs = word_at sep k (past_word sep cs)
 -- the words, at most n of them; and all, each of a character or more
 abbrev pub words_up_to : ℕ → ℕ → List ℕ → List (List ℕ)
 words_up_to sep zero cs = []
-words_up_to sep (suc n) cs = pick (eqb (length (word_at sep 0 cs)) 0) [] (word_at sep 0 cs ∷ words_up_to sep n (past_word sep cs))
+words_up_to sep (suc n) cs =
+    pick (eqb (length (word_at sep 0 cs)) 0) []
+    (word_at sep 0 cs ∷ words_up_to sep n (past_word sep cs))
 
 unfoldable pub words_in : ℕ → List ℕ → List (List ℕ)
 words_in sep cs = words_up_to sep (length cs) cs
@@ -75,12 +79,15 @@ kept v = pick (ltb (v / 10) (2 ^ 60)) v (2 ^ 64 - 1)
 
 -- what decimal text is: a number, if it has digits and nothing else
 unfoldable pub decimal : List ℕ → Option ℕ
-decimal text = pick (ltb 0 (length text) && every (in_range 48 57) text) (Some (kept (decimal_from 0 text))) None
+decimal text =
+    pick (ltb 0 (length text) && every (in_range 48 57) text)
+    (Some (kept (decimal_from 0 text))) None
 
 -- the number of a text, if it is one of at most `most`, stored in n bytes, high byte first; and
 -- whether it is
 abbrev pub number_stored : ℕ → ℕ → ℕ → List ℕ → Option ℕ → Bool × List ℕ
-number_stored most at n out (Some x) = pick (leb x most) (true, sets out at (bytes_of n x)) (false, out)
+number_stored most at n out (Some x) =
+    pick (leb x most) (true, sets out at (bytes_of n x)) (false, out)
 number_stored most at n out None = (false, out)
 
 -- a number below 256 before others; nothing if it is none
@@ -91,13 +98,15 @@ listed None l = []
 -- the numbers below 256 that the words are, m of them from word k on, up to the first that is none
 abbrev pub byte_words : ℕ → List ℕ → ℕ → ℕ → List ℕ
 byte_words sep text zero k = []
-byte_words sep text (suc m) k = listed (decimal (word_at sep k text)) (byte_words sep text m (suc k))
+byte_words sep text (suc m) k =
+    listed (decimal (word_at sep k text)) (byte_words sep text m (suc k))
 
 -- the words from word `from` up to word `to`, which is none of them, stored as bytes; and whether
 -- each is one and there is no word `to`
 unfoldable pub list_stored : List ℕ → ℕ → ℕ → ℕ → ℕ → List ℕ → Bool × List ℕ
 list_stored text from to sep at out = (
-  eqb (length (byte_words sep text (to - from) from)) (to - from) && eqb (length (word_at sep to text)) 0,
+  eqb (length (byte_words sep text (to - from) from)) (to - from)
+      && eqb (length (word_at sep to text)) 0,
   sets out at (byte_words sep text (to - from) from),
 )
 
@@ -128,13 +137,16 @@ unfoldable pub hex_text : List ℕ → ℕ → Result ℕ HexError
 hex_text text room =
     pick (ltb (2 * room) (length (digits_in (known text)))) (Err Long)
     (pick (ltb (length (known text)) (length text)) (Err (Strange (length (known text))))
-    (pick (eqb (length (digits_in (known text)) % 2) 1) (Err Odd) (Ok (length (digits_in (known text)) / 2))))
+    (pick (eqb (length (digits_in (known text)) % 2) 1) (Err Odd)
+    (Ok (length (digits_in (known text)) / 2))))
 
 -- what text is, and the buffer with the bytes that it holds, as far as there is room. The digits
 -- before a strange character are stored too
 unfoldable pub hex_stored : List ℕ → ℕ → ℕ → List ℕ → Result ℕ HexError × List ℕ
-hex_stored text at room out =
-    (hex_text text (fitting at room out), sets out at (take (fitting at room out) (packed (digits_in (known text)))))
+hex_stored text at room out = (
+  hex_text text (fitting at room out),
+  sets out at (take (fitting at room out) (packed (digits_in (known text)))),
+)
 
 -- the number that hexadecimal digits make after the number v
 abbrev pub hex_from : ℕ → List ℕ → ℕ
@@ -147,7 +159,8 @@ is_digit b = ltb (digit_of b) 16
 -- the number of a text, if it is one to eight digits and nothing else
 unfoldable pub hex_number : List ℕ → Option ℕ
 hex_number text =
-    pick (ltb 0 (length text) && (leb (length text) 8 && every is_digit text)) (Some (hex_from 0 text)) None
+    pick (ltb 0 (length text) && (leb (length text) 8 && every is_digit text))
+    (Some (hex_from 0 text)) None
 
 -- whether text is 16 bytes
 abbrev pub are_sixteen : Result ℕ HexError → Bool
@@ -163,5 +176,6 @@ sixteen_stored h = (are_sixteen h.0, h.1)
 unfoldable pub digit_stored : ℕ → ℕ → ℕ → ℕ → List ℕ → Bool × List ℕ
 digit_stored at room n d out =
     pick (ltb (n / 2) room)
-    (stored (at + n / 2) (pick (eqb (n % 2) 0) (d * 16 % 256) (bit_or (get_or out (at + n / 2) 0) d)) out)
+    (stored (at + n / 2)
+    (pick (eqb (n % 2) 0) (d * 16 % 256) (bit_or (get_or out (at + n / 2) 0) d)) out)
     (false, out)

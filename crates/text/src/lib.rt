@@ -1,4 +1,5 @@
-// Text: words, hexadecimal and decimal numbers; single bytes of a buffer; and, in `out`, printing.
+// Text: words, hexadecimal and decimal numbers; single bytes of a buffer; in `out` printing, and in
+// `shown` what is printed of bytes and counts.
 #![tactic(auto)]
 
 ghost use Rattle.std.specs.Prelude.{◌≡◌, ◌+◌, ◌-◌, ◌*◌, ◌≤◌, ◌^◌, length, get_or, drop, leb, not, position, is_some};
@@ -9,6 +10,7 @@ ghost use Rattle.words.specs.Words.{bytes_of};
 ghost use Rattle.text.specs.Text.{stored, is_gap, past_word, word_at, words_in, IsCharacter, decimal, number_stored, list_stored, digit_stored, hex_stored, hex_number, sixteen_stored};
 
 pub mod out;
+pub mod shown;
 
 /// Why hexadecimal text holds no bytes, or too many.
 #[derive(Clone, Copy, Debug, PartialEq, Eq)]
@@ -29,9 +31,8 @@ pub fn byte(bytes: &[u8], at: usize, i: usize) -> u8
     bytes.get(place).copied().unwrap_or(0)
 }
 
-/// Stores byte `i` from `at` on; tells whether there is room. A bool: most callers leave it, and an
-/// Option<()> would be made to be dropped. Here and below a buffer and a place are no slice from
-/// that place on: each caller would have to show that the place lies within.
+/// Stores byte `i` from `at` on; tells whether there is room, which most callers leave. Here and
+/// below a place beside its buffer need not lie within.
 pub fn set(out: &mut [u8], at: usize, i: usize, b: u8) -> bool
     ensures { (result, out.new) ≡ stored (at + i) b out.old }
 {
@@ -57,16 +58,14 @@ fn is_gap(b: u8, sep: u8) -> bool
     }
 }
 
-// Where the first word of the text begins. It and the next are functions of their own: in
-// `split_word` the proof of their chains didn't close; and two, since one of both by a closure is
-// as long.
+// Where the first word of the text begins; none if it has none.
 fn find_word(text: &[u8], sep: u8) -> Option<usize>
     ensures { result ≡ position (λ b. not (is_gap sep b)) text.now }
 {
     text.iter().position(|b| !is_gap(*b, sep))
 }
 
-// Where its first gap is.
+// Where the first gap of the text is; none if it has none.
 fn find_gap(text: &[u8], sep: u8) -> Option<usize>
     ensures { result ≡ position (λ b. is_gap sep b) text.now }
 {
@@ -163,7 +162,7 @@ fn put_digit(out: &mut [u8], at: usize, room: usize, digits: usize, d: u8) -> bo
 }
 
 /// Puts the bytes that hexadecimal text holds into `out` from `at` on, at most `room` of them, and
-/// tells how many. Gaps and colons are skipped.
+/// tells how many. Gaps and colons are skipped. What stands before an error may be stored.
 pub fn parse_hex(text: &[u8], out: &mut [u8], at: usize, room: usize) -> Result<usize, HexError>
     ensures { (result, out.new) ≡ hex_stored text.now at room out.old }
 {
@@ -197,6 +196,8 @@ fn appended(value: u64, digit: u8) -> u64
     10 * value + u64::from(digit)
 }
 
+/// The number of decimal digits, without a sign or gaps; none if it is none. From 2^62 on, which no
+/// operation takes, it may be a larger one.
 #[tactic(auto, using(crate::proofs::Decimals::strange, crate::proofs::Decimals::empty))]
 pub fn parse_decimal(text: &[u8]) -> Option<u64>
     ensures { result ≡ decimal text.now }
@@ -232,8 +233,7 @@ fn parse_hex_number(digits: &[u8]) -> Option<u32>
     Some(value)
 }
 
-// Stores a number in `n` bytes, high byte first. Byte by byte: `to_be_bytes` gives eight, and `n`
-// may be more, which are zeros then.
+// Stores a number in `n` bytes, high byte first; of more than eight the first are zeros.
 fn put_low_bytes(out: &mut [u8], at: usize, n: usize, x: u64)
     ensures { out.new ≡ sets out.old at (bytes_of n x) }
 {

@@ -1,29 +1,34 @@
 // Printing. What a command answers goes to standard output, everything else to standard error.
-ghost use Rattle.std.specs.Prelude.{◌≡◌, ◌≢◌};
+ghost use Rattle.std.specs.Prelude.{◌≡◌, ◌≢◌, OnOk, IfErr};
+ghost use Rattle.std.specs.IoError.{error_kind};
+ghost use Rattle.std.specs.declared.io.ErrorKind.TheVariants.{BrokenPipe};
 ghost use Rattle.text.specs.Printing.{Becomes};
 
 use std::fmt::Display;
+use std::io;
 use std::io::{Error, ErrorKind, Print, Stderr, Stdout};
-use std::{fmt, io};
 
 /// Where a text goes.
 #[derive(Clone, Copy)]
 pub enum Stream {
+    /// standard output, for what a command answers
     Output,
+    /// standard error, for refusals, complaints and remarks
     Error,
 }
 
 /// What became of the writes so far.
 #[derive(Clone, Copy, Debug, PartialEq, Eq)]
 pub enum Fate {
+    /// whatever was answered is written; a complaint may have failed
     Written,
-    /// a write of the answer failed
+    /// a write of the answer failed, by anything but a broken pipe
     Cut,
-    /// nobody reads a stream any more: nothing more is written
+    /// a write of either stream found its pipe broken: nothing more is written to either
     Unread,
 }
 
-/// The two streams.
+/// The two streams of the program, and what became of the writes to them.
 #[derive(Drop)]
 pub struct Out {
     output: Stdout,
@@ -32,6 +37,7 @@ pub struct Out {
 }
 
 impl Out {
+    /// The streams of the program, before anything is written.
     pub fn new(rt: &HostRuntime) -> Out
         ensures { result.fate ≡ Fate.Written }
     {
@@ -42,15 +48,26 @@ impl Out {
         }
     }
 
+    /// What became of all the writes so far.
     pub fn fate(&self) -> Fate
         ensures { result ≡ self.now.fate }
     {
         self.fate
     }
 
-    // Notes what became of a write. A complaint that cannot be written is no failure.
+    // Notes what became of a write, which was tried while somebody read. A complaint that cannot be
+    // written is no failure.
     fn settle(&mut self, to: Stream, written: io::Result<()>)
-        ensures { self.old.fate ≢ Fate.Unread → Becomes to self.old.fate self.new.fate }
+        requires { self.now.fate ≢ Fate.Unread }
+        ensures becomes { Becomes to self.old.fate self.new.fate }
+        ensures written { OnOk written (self.new.fate ≡ self.old.fate) }
+        ensures unread { IfErr written
+            (λ e. error_kind e ≡ BrokenPipe → self.new.fate ≡ Fate.Unread) }
+        ensures cut { IfErr written
+            (λ e. to ≡ Stream.Output → error_kind e ≢ BrokenPipe → self.new.fate ≡ Fate.Cut) }
+        ensures noted { IfErr written
+            (λ e. to ≡ Stream.Error → error_kind e ≢ BrokenPipe
+            → self.new.fate ≡ self.old.fate) }
     {
         let Err(e) = written else {
             return;
@@ -62,13 +79,11 @@ impl Out {
         }
     }
 
-    /// What a value prints.
-    pub fn put<D: Display + Drop>(&mut self, to: Stream, value: D)
+    // Prints, while somebody reads. This and the next alone write to a stream.
+    fn print<D: Display + Drop>(&mut self, to: Stream, value: D)
+        requires { self.now.fate ≢ Fate.Unread }
         ensures { Becomes to self.old.fate self.new.fate }
     {
-        if self.fate == Fate::Unread {
-            return;
-        }
         let written = match to {
             Stream::Output => self.output.print(value),
             Stream::Error => self.error.print(value),
@@ -76,54 +91,44 @@ impl Out {
         self.settle(to, written);
     }
 
+    // Prints bytes that need not be text, while somebody reads.
+    fn print_bytes(&mut self, bytes: &[u8])
+        requires { self.now.fate ≢ Fate.Unread }
+        ensures { Becomes Stream.Error self.old.fate self.new.fate }
+    {
+        let written = self.error.write_all(bytes);
+        self.settle(Stream::Error, written);
+    }
+
+    /// Prints a value, unless nobody reads any more.
+    pub fn put<D: Display + Drop>(&mut self, to: Stream, value: D)
+        ensures { Becomes to self.old.fate self.new.fate }
+    {
+        if self.fate != Fate::Unread {
+            self.print(to, value);
+        }
+    }
+
+    /// Prints a part of the answer.
     pub fn say<D: Display + Drop>(&mut self, value: D)
         ensures { Becomes Stream.Output self.old.fate self.new.fate }
     {
         self.put(Stream::Output, value);
     }
 
+    /// Prints a part of a refusal, a complaint or a remark.
     pub fn note<D: Display + Drop>(&mut self, value: D)
         ensures { Becomes Stream.Error self.old.fate self.new.fate }
     {
         self.put(Stream::Error, value);
     }
 
-    /// Bytes that need not be text.
+    /// Prints such a part that need not be text, as a path.
     pub fn note_bytes(&mut self, bytes: &[u8])
         ensures { Becomes Stream.Error self.old.fate self.new.fate }
     {
-        if self.fate == Fate::Unread {
-            return;
-        }
-        let written = self.error.write_all(bytes);
-        self.settle(Stream::Error, written);
-    }
-}
-
-/// Bytes in hexadecimal.
-#[derive(Clone, Copy)]
-pub struct HexBytes<'a>(pub &'a [u8]);
-
-impl<'a> Display for HexBytes<'a> {
-    fn fmt<W: fmt::Write>(&self, f: &mut fmt::Formatter<W>) -> fmt::Result {
-        for b in self.0 {
-            write!(f, "{b:02x}")?;
-        }
-        Ok(())
-    }
-}
-
-/// A count of bytes.
-#[derive(Clone, Copy)]
-pub struct Count(pub usize);
-
-impl Display for Count {
-    fn fmt<W: fmt::Write>(&self, f: &mut fmt::Formatter<W>) -> fmt::Result {
-        let n = self.0;
-        if n == 1 {
-            write!(f, "1 byte")
-        } else {
-            write!(f, "{n} bytes")
+        if self.fate != Fate::Unread {
+            self.print_bytes(bytes);
         }
     }
 }

@@ -1,5 +1,5 @@
 -- What a parameter wastes, and why; and the parameters of an extension that waste something.
-use Rattle.std.specs.Prelude.{ℕ, ◌+◌, List, Bool, length, map, filter, ltb}
+use Rattle.std.specs.Prelude.{ℕ, ◌+◌, List, Bool, length, map, filter, ltb, codes}
 use Rattle.refusal.specs.Outcome.{Result, accepted, refused, pick}
 use Rattle.front.specs.declared.Fault.{Fault}
 use Rattle.front.specs.Parameter.{read_parameter}
@@ -21,13 +21,20 @@ reason_of c = pick (ltb 0 c.skipped) Unknown (pick (ltb 0 c.restated) Default Fo
 abbrev pub waste_of : Counts → Wasted
 waste_of c = record { bytes = bytes_wasted c; reason = reason_of c }
 
+-- what is printed of a reason
+abbrev pub reason_text : Reason → List ℕ
+reason_text Unknown = codes "unknown, skipped"
+reason_text Default = codes "restates the default"
+reason_text Form = codes "longer forms than needed"
+
 -- THE PARAMETERS THAT WASTE SOMETHING, in the order they stand
 abbrev pub id_in : Result Fault (ℕ × List ℕ × List ℕ) → ℕ
 id_in (accepted i) = i.0
 id_in (refused f) = 0
 
 abbrev pub waster_of : List ℕ → Waster
-waster_of w = record { id = id_in (read_parameter w); len = length w; wasted = waste_of (count_of w) }
+waster_of w =
+    record { id = id_in (read_parameter w); len = length w; wasted = waste_of (count_of w) }
 
 abbrev pub wastes : Waster → Bool
 wastes x = ltb 0 x.wasted.bytes

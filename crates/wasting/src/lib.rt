@@ -23,6 +23,7 @@ use varint::{Decoded, VarInt};
 /// Why a parameter wastes bytes.
 #[derive(Clone, Copy, Debug, PartialEq, Eq)]
 pub enum Reason {
+    /// its identifier is unknown, so that it is skipped
     Unknown,
     /// it restates a default
     Default,
@@ -37,7 +38,8 @@ pub struct Wasted {
     pub reason: Reason,
 }
 
-/// A parameter that wastes bytes: its identifier, its length, and what it wastes.
+/// A parameter that wastes bytes: its identifier, its length in bytes with its identifier and its
+/// length, and what it wastes.
 #[derive(Clone, Copy)]
 pub struct Waster {
     pub id: u64,
@@ -46,6 +48,11 @@ pub struct Waster {
 }
 
 impl Display for Reason {
+    ghost use Rattle.std.specs.Prelude.{Some};
+    ghost use Rattle.wasting.specs.Wasting.{reason_text};
+
+    ghost output = { λ reason. Some (reason_text reason) };
+
     fn fmt<W: fmt::Write>(&self, f: &mut fmt::Formatter<W>) -> fmt::Result {
         match self {
             Reason::Unknown => write!(f, "unknown, skipped"),
@@ -72,7 +79,8 @@ fn number_in(v: &[u8]) -> Decoded
     }
 }
 
-/// What a parameter, by its own bytes, adds to what tidying drops.
+/// What a parameter, by its own bytes from its identifier on, adds to what tidying drops: to one of
+/// the three sums at most. Of bytes that are no parameter all are 0.
 #[tactic(auto, using(front::proofs::Position::within, crate::proofs::Wasting::none_adds, crate::proofs::Wasting::unknown_adds, crate::proofs::Wasting::default_adds, crate::proofs::Wasting::number_adds, crate::proofs::Wasting::other_adds))]
 pub fn sums_of(w: &[u8]) -> Sums
     ensures sums { result ≡ dropped (count_of w.now) }
@@ -108,7 +116,7 @@ pub fn sums_of(w: &[u8]) -> Sums
     Sums { saved, ..nothing }
 }
 
-/// What a parameter wastes.
+/// What a parameter, by its own bytes from its identifier on, wastes.
 pub fn waste(w: &[u8]) -> Wasted
     ensures { result ≡ waste_of (count_of w.now) }
 {
@@ -149,7 +157,9 @@ fn collect(alloc: Global, src: &[u8]) -> Result<Vec<Waster>, AllocError>
     Ok(found)
 }
 
-/// The same, those that waste most first; of those that waste as much, that which stands first.
+/// The parameters of an extension that waste something, up to the first that cannot be read: those
+/// that waste most first; of those that waste as much, that which stands first. An error is that no
+/// memory is left.
 pub fn wasters(alloc: Global, src: &[u8]) -> Result<Vec<Waster>, AllocError>
     ensures all { IfOk result
         (λ found. IsPermutation (wasters_of (parameters src.now)) found.items) }

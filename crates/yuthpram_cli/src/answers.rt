@@ -18,7 +18,8 @@ use refusal::Refusal;
 use rules::Side;
 use show::rows::ORDER_AT;
 use std::alloc::Global;
-use text::out::{Count, HexBytes, Out};
+use text::out::Out;
+use text::shown::{Count, HexBytes};
 use varint::{Decoded, VarInt};
 
 fn refused(out: &mut Out, r: Refusal) -> Status
