@@ -222,8 +222,8 @@ pub fn new(
     Ok(record_of(&settings, initial_src_cid, reserved, places))
 }
 
-/// A record that is built is well formed, and has the order handed in, which is a permutation, and a
-/// reserved identifier.
+/// A record that is built is well formed, and has the order handed in, which is a permutation, and
+/// a reserved identifier.
 #[tactic(auto, using(crate::proofs::Theorems::building_laws))]
 pub fn building_laws()
     ensures { BuildingLaws }

@@ -254,8 +254,8 @@ pub fn place_of(id: u64) -> usize
     }
 }
 
-/// Known identifiers and places, but for the reserved parameter's, belong to one another; a reserved
-/// identifier is unknown.
+/// Known identifiers and places, but for the reserved parameter's, belong to one another; a
+/// reserved identifier is unknown.
 #[tactic(auto, using(crate::proofs::PlaceLaws::place_laws))]
 pub fn place_laws()
     ensures { PlaceLaws }

@@ -115,9 +115,9 @@ fn cid_of(v: &[u8]) -> ConnectionId
     }
 }
 
-/// A written ID is read back, whatever follows; what is read is well formed, within the input and in
-/// its only form; two IDs are the same exactly if they are equal, well-formed ones exactly if their
-/// bytes are.
+/// A written ID is read back, whatever follows; what is read is well formed, within the input and
+/// in its only form; two IDs are the same exactly if they are equal, well-formed ones exactly if
+/// their bytes are.
 #[tactic(auto, using(crate::proofs::ConnectionIdLaws::connection_id_laws))]
 pub fn connection_id_laws()
     ensures { ConnectionIdLaws }

@@ -140,9 +140,9 @@ impl<'a, const COUNTED: bool> Iterator for Parameters<'a, COUNTED> {
     }
 }
 
-/// A written parameter is read back, whatever follows; what is read is whole by itself; the one at a
-/// position is that at the front of the bytes from there on; the parameters of whole ones, one after
-/// another, are these.
+/// A written parameter is read back, whatever follows; what is read is whole by itself; the one at
+/// a position is that at the front of the bytes from there on; the parameters of whole ones, one
+/// after another, are these.
 #[tactic(auto, using(crate::proofs::ParameterLaws::parameter_laws))]
 pub fn parameter_laws()
     ensures { ParameterLaws }

@@ -146,8 +146,8 @@ pub fn read(side: Side, src: &[u8]) -> Result<TransportParameters, Refusal>
 }
 
 /// Whole parameters are received one after another; what a side accepts is legal for it, and the
-/// record does not depend on the side; a second copy is 12, and nothing accepted has one; the record
-/// is that of what the index keeps.
+/// record does not depend on the side; a second copy is 12, and nothing accepted has one; the
+/// record is that of what the index keeps.
 #[tactic(auto, using(crate::proofs::ReadingLaws::reading_laws))]
 pub fn reading_laws()
     ensures { ReadingLaws }

@@ -110,8 +110,8 @@ pub fn tidy(side: Side, src: &[u8], out: &mut [u8]) -> Result<usize, Refusal>
     put_tidied(&kept, out)
 }
 
-/// What is stored of an accepted extension are the parameters of its record, in catalogue order, and
-/// these are the pieces that are found in the extension.
+/// What is stored of an accepted extension are the parameters of its record, in catalogue order,
+/// and these are the pieces that are found in the extension.
 #[tactic(auto, using(crate::proofs::TidyingLaws::tidying_laws))]
 pub fn tidying_laws()
     ensures { TidyingLaws }

@@ -35,8 +35,8 @@ read_number (b ∷ bs) =
     (accepted (with_saved (value_from (b % 64) (take (2 ^ (b / 64) - 1) bs)) (2 ^ (b / 64))))
     (refused 3)
 
--- how the code goes about it where eight bytes are left: the same, which no number outruns; zeros of
--- fewer
+-- how the code goes about it where eight bytes are left: the same, which no number outruns; zeros
+-- of fewer
 abbrev pub read_wide : List ℕ → Outcome Decoded
 read_wide s = pick (leb 8 (length s)) (read_number s) (accepted (record { value = 0; count = 0; saved = 0 }))
 
