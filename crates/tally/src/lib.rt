@@ -7,7 +7,8 @@ ghost use Rattle.tally.specs.Tally.{restates};
 
 use catalogue::DEFAULTS;
 
-/// Where the bytes of an accepted extension go, and how many known parameters it names.
+/// Where the bytes of an accepted extension go, and how many known parameters it names. It crosses
+/// the C interface: the order of the fields is that of `yuthpram_counts` in the header.
 #[repr(C)]
 #[derive(Clone, Copy, Debug, PartialEq, Eq)]
 pub struct Counts {

@@ -93,9 +93,8 @@ impl Draft {
 
     fn preferred(&mut self, at: usize, a: &PreferredAddress) -> usize
         requires { (formed_address a.now ≡ true) × Before 15 at self.old }
-        ensures { Adds
-            (due_value a.now.present (id_at 15)
-            (address_bytes a.now) ∷ []) 16 at self.old result self.new }
+        ensures { Adds (due_value a.now.present (id_at 15) (address_bytes a.now) ∷ [])
+            16 at self.old result self.new }
     {
         let end = at + put_address(*a, &mut self.parts[at..]);
         self.starts[PREFERRED_ADDRESS + 1] = end;
@@ -104,9 +103,8 @@ impl Draft {
 
     fn versions(&mut self, at: usize, v: &VersionInformation) -> usize
         requires { (formed_versions v.now ≡ true) × Before 21 at self.old }
-        ensures { Adds
-            (due_value v.now.present (id_at 21)
-            (versions_bytes v.now) ∷ []) 22 at self.old result self.new }
+        ensures { Adds (due_value v.now.present (id_at 21) (versions_bytes v.now) ∷ [])
+            22 at self.old result self.new }
     {
         let end = at + put_versions(v, &mut self.parts[at..]);
         self.starts[VERSION_INFORMATION + 1] = end;
@@ -127,8 +125,8 @@ impl Draft {
     fn reserved(&mut self, at: usize, x: &ReservedTransportParameter) -> usize
         requires { (formed_reserved x.now ≡ true) × Before 11 at self.old }
         ensures { Adds
-            (due_value x.now.present x.now.id
-            (take x.now.payload_len x.now.payload) ∷ []) 12 at self.old result self.new }
+            (due_value x.now.present x.now.id (take x.now.payload_len x.now.payload) ∷ [])
+            12 at self.old result self.new }
     {
         let n = usize::from(x.payload_len);
         self.field(at, RESERVED, x.present, x.id, n, &x.payload)
@@ -137,9 +135,8 @@ impl Draft {
     #[tactic(auto, using(crate::proofs::Parts::token_field), unfolding(catalogue::specs::Catalogue::id_at, catalogue::specs::Catalogue::ids))]
     fn token(&mut self, at: usize, t: &Optional<ResetToken>) -> usize
         requires { Before 12 at self.old }
-        ensures { Adds
-            (due_value t.now.present
-            (id_at 12) t.now.value.bytes ∷ []) 13 at self.old result self.new }
+        ensures { Adds (due_value t.now.present (id_at 12) t.now.value.bytes ∷ [])
+            13 at self.old result self.new }
     {
         self.field(
             at,
