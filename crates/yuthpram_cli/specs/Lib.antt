@@ -1,1 +1,2 @@
+pub mod Complaints
 pub mod Statuses

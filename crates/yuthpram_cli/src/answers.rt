@@ -5,7 +5,7 @@ ghost use Rattle.order.specs.Order.{order_fault};
 ghost use Rattle.reader.specs.Reading.{read};
 ghost use Rattle.tidy.specs.Tidying.{tidy};
 ghost use Rattle.report.specs.Report.{report};
-ghost use Rattle.by_image.specs.ByImage.{image_length, image_resume, image_check, image_authenticate};
+ghost use Rattle.by_image.specs.ByImage.{image_length, image_write, image_resume, image_check, image_authenticate};
 ghost use Rattle.yuthpram_cli.specs.Statuses.{status_of, fault_status, seen_of};
 
 use crate::Status;
@@ -37,6 +37,7 @@ fn unread(out: &mut Out, side: Side, r: Refusal, src: &[u8]) -> Status
     Status::Refused
 }
 
+// Tells the length of a record, by its image; nothing if it has none.
 fn note_length(out: &mut Out, record: &[u8]) {
     if let Ok(n) = by_image::length(record) {
         let count = Count(n);
@@ -44,8 +45,7 @@ fn note_length(out: &mut Out, record: &[u8]) {
     }
 }
 
-// The first `n` of some bytes, all if there are fewer: the library, which has no heap, stores into
-// a buffer and tells how many bytes.
+// The first `n` of some bytes, all if there are fewer: what the library stored into a buffer.
 fn first(n: usize, bytes: &[u8]) -> &[u8] {
     bytes.get(..n).unwrap_or(bytes)
 }
@@ -55,7 +55,7 @@ fn say_hex(out: &mut Out, bytes: &[u8]) {
     out.say(format_args!("{digits}\n"));
 }
 
-/// Reads an extension, and shows it: before the record stands its length.
+/// Reads an extension, and shows its record: before it stands its length, on standard error.
 pub fn read(out: &mut Out, side: Side, src: &[u8]) -> Status
     ensures { result ≡ status_of (read side src.now) }
 {
@@ -106,7 +106,10 @@ pub fn order_fault(out: &mut Out, order: &[u8]) -> Status
 }
 
 /// Writes a record, by its image.
-pub fn write(out: &mut Out, record: &[u8; RECORD_SIZE]) -> Status {
+pub fn write(out: &mut Out, record: &[u8; RECORD_SIZE]) -> Status
+    ensures { result
+        ≡ status_of (image_write «record».now (replicate MAX_EXTENSION 0)).0 }
+{
     let mut bytes = [0u8; MAX_EXTENSION];
     match by_image::write(record, &mut bytes) {
         Ok(n) => {
@@ -114,8 +117,13 @@ pub fn write(out: &mut Out, record: &[u8; RECORD_SIZE]) -> Status {
             say_hex(out, first(n, &bytes));
             Status::Answered
         }
-        Err(Refusal::InvalidOrder) => order_fault(out, order_in(record)),
-        Err(r) => refused(out, r),
+        Err(r) => {
+            note_refusal(out, r);
+            if let Refusal::InvalidOrder = r {
+                note_order_fault(out, order_in(record));
+            }
+            Status::Refused
+        }
     }
 }
 
@@ -201,6 +209,7 @@ pub fn check_record(out: &mut Out, side: Side, record: &[u8]) -> Status
     Status::Refused
 }
 
+/// Tidies an extension, and tells how many bytes that saves and leaves.
 pub fn tidy(out: &mut Out, side: Side, src: &[u8]) -> Status
     ensures { result ≡ status_of (tidy side src.now (replicate MAX_EXTENSION 0)).0 }
 {
@@ -245,6 +254,8 @@ fn say_number(out: &mut Out, read: Decoded) {
     }
 }
 
+/// Decodes the number that some bytes begin with: its value, how many bytes it takes, and how many
+/// its shortest form saves.
 pub fn decode(out: &mut Out, src: &[u8]) -> Status
     ensures { result ≡ status_of (read_number src.now) }
 {
@@ -257,6 +268,7 @@ pub fn decode(out: &mut Out, src: &[u8]) -> Status
     }
 }
 
+/// Encodes a number in its shortest form.
 pub fn encode(out: &mut Out, x: u64) -> Status
     ensures { result ≡ status_of (write_number x (replicate 8 0)).0 }
 {

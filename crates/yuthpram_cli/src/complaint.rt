@@ -1,4 +1,7 @@
 // Why a command has no answer: how it is not called as it should be, or why there is no input.
+ghost use Rattle.std.specs.Prelude.{◌≡◌};
+ghost use Rattle.yuthpram_cli.specs.Complaints.{is_of_usage};
+
 use form::Slip;
 use std::alloc::{AllocError, AllocFailed};
 use std::fmt;
@@ -6,33 +9,47 @@ use std::fmt::Display;
 use std::io::Error;
 use text::HexError;
 
+/// What is amiss: up to `NoIds` with the words of the command line, of which no command has so many
+/// or such.
 #[derive(Drop)]
 pub enum Complaint<'a> {
-    /// words that no command takes
     NoCommand,
+    /// a word too many
     Surplus,
+    /// a number to encode that is no decimal number
     NotDecimal,
+    /// no file of the remembered record
     NoRemembered,
+    /// fewer than the three connection IDs seen
     NoIds,
+    /// neither client nor server
     NoSide,
     /// a connection ID that is none
     NoId,
-    /// the input
+    /// an input, or a word, over its limit
     TooLong,
+    /// no hexadecimal digit, at a character counted from 0
     NoDigit(usize),
+    /// an odd number of hexadecimal digits
     OddDigits,
+    /// no number of 0 to 255, at a position counted from 0
     NoEntry(usize),
+    /// more than 255 entries of an order
     ManyEntries,
+    /// a path that is not UTF-8
     NotUtf8(&'a [u8]),
     /// what could not be read, and why
     Unread(&'a str, Error),
+    /// a line of a record's text form that is amiss
     Slip(Slip),
     NoMemory,
 }
 
 impl<'a> Complaint<'a> {
-    /// Whether it is about words that no command takes.
-    pub fn is_of_usage(&self) -> bool {
+    /// Whether it is about words that no command takes, so that the usage is shown.
+    pub fn is_of_usage(&self) -> bool
+        ensures { result ≡ is_of_usage self.now }
+    {
         matches!(
             self,
             Complaint::NoCommand
@@ -46,6 +63,10 @@ impl<'a> Complaint<'a> {
 
 // What is wrong; of which file, `help::complain` says before it.
 impl<'a> Display for Complaint<'a> {
+    ghost use Rattle.yuthpram_cli.specs.Complaints.{complaint_text};
+
+    ghost output = { λ complaint. complaint_text complaint };
+
     fn fmt<W: fmt::Write>(&self, f: &mut fmt::Formatter<W>) -> fmt::Result {
         match self {
             Complaint::NoCommand => write!(f, "no such command"),
@@ -81,18 +102,33 @@ impl<'a> Display for Complaint<'a> {
 }
 
 impl<'a> From<AllocError> for Complaint<'a> {
+    ghost use Rattle.std.specs.Prelude.{◌≡◌};
+    ghost use Rattle.yuthpram_cli.specs.declared.complaint.Complaint.TheVariants.{NoMemory};
+
+    ghost from_gives = { λ _ complaint. complaint ≡ NoMemory };
+
     fn from(_e: AllocError) -> Complaint<'a> {
         Complaint::NoMemory
     }
 }
 
 impl<'a, T: Drop> From<AllocFailed<T>> for Complaint<'a> {
+    ghost use Rattle.std.specs.Prelude.{◌≡◌};
+    ghost use Rattle.yuthpram_cli.specs.declared.complaint.Complaint.TheVariants.{NoMemory};
+
+    ghost from_gives = { λ _ complaint. complaint ≡ NoMemory };
+
     fn from(_e: AllocFailed<T>) -> Complaint<'a> {
         Complaint::NoMemory
     }
 }
 
 impl<'a> From<HexError> for Complaint<'a> {
+    ghost use Rattle.std.specs.Prelude.{◌≡◌};
+    ghost use Rattle.yuthpram_cli.specs.Complaints.{of_hex};
+
+    ghost from_gives = { λ e complaint. complaint ≡ of_hex e };
+
     fn from(e: HexError) -> Complaint<'a> {
         match e {
             HexError::Strange(at) => Complaint::NoDigit(at),
@@ -103,6 +139,11 @@ impl<'a> From<HexError> for Complaint<'a> {
 }
 
 impl<'a> From<Slip> for Complaint<'a> {
+    ghost use Rattle.std.specs.Prelude.{◌≡◌};
+    ghost use Rattle.yuthpram_cli.specs.declared.complaint.Complaint.TheVariants.{Slip};
+
+    ghost from_gives = { λ slip complaint. complaint ≡ Slip slip };
+
     fn from(slip: Slip) -> Complaint<'a> {
         Complaint::Slip(slip)
     }

@@ -43,8 +43,9 @@ in parentheses are ignored. A flag has no value, or set. What has no line has it
   # ..                                 a comment
 
 Answers go to standard output; refusals, complaints, what tidying saved and the length of a record that is shown or written to standard
-error. Exit status: 0 answered, 1 refused, 2 not called as it should be, 3 the answer could not be written.\n";
+error. Exit status: 0 answered, 1 refused, 2 not called as it should be, 3 the answer could not be written, 141 nobody reads it.\n";
 
+/// Answers with the usage and its details.
 pub fn say_help(out: &mut Out) -> Status
     ensures { result ≡ Status.Answered }
 {
@@ -72,6 +73,7 @@ fn note_unread(out: &mut Out, alloc: Global, what: &str, complaint: &Complaint<'
     }
 }
 
+/// Says why a command has no answer; if its words are why, with the usage.
 pub fn complain(out: &mut Out, alloc: Global, complaint: &Complaint<'_>) -> Status
     ensures { result ≡ Status.Misused }
 {

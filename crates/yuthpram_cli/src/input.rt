@@ -1,5 +1,7 @@
 // The words of the command line, and a command's input.
-ghost use Rattle.std.specs.Prelude.{◌≡◌, ◌⊎◌, ◌+◌, ◌<◌, ◌≤◌, length, vec_len, nat_lt, IfOk, IfErr, IsErrOf};
+ghost use Rattle.std.specs.Prelude.{◌≡◌, ◌⊎◌, ◌+◌, ◌<◌, ◌≤◌, length, vec_len, nat_lt, false, IfSome, IfOk, IfErr, IsErrOf};
+ghost use Rattle.std.specs.List.{All};
+ghost use Rattle.yuthpram_cli.specs.Complaints.{is_of_usage};
 
 use crate::complaint::Complaint;
 use differing::SeenImages;
@@ -23,8 +25,8 @@ const PATH_LIMIT: usize = 4096;
 
 const DIGIT_LIMIT: usize = 32;
 
-/// The words of the command line, of which the first is the program's name, and the system, which
-/// has what they name. In place of a word of over `TEXT_LIMIT` bytes stands none.
+/// The words of the command line, counted from 0, which is the program's name, and the system,
+/// which has what they name. In place of a word of over `TEXT_LIMIT` bytes stands none.
 #[derive(Drop)]
 pub struct Args<'r> {
     rt: &'r HostRuntime,
@@ -32,7 +34,11 @@ pub struct Args<'r> {
 }
 
 impl<'r> Args<'r> {
-    pub fn read(rt: &'r HostRuntime) -> Result<Args<'r>, AllocError> {
+    /// The words that the program was called with. An error is that no memory is left.
+    pub fn read(rt: &'r HostRuntime) -> Result<Args<'r>, AllocError>
+        ensures { IfOk result (λ args.
+            All (λ word. IfSome word (λ bytes. vec_len bytes ≤ 262144)) args.words.items) }
+    {
         let alloc = rt.alloc();
         let mut words = Vec::new(alloc);
         let mut buffer = vec![in alloc; 0u8; TEXT_LIMIT]?;
@@ -50,10 +56,12 @@ impl<'r> Args<'r> {
         Ok(Args { rt, words })
     }
 
+    /// The allocator of the system.
     pub fn alloc(&self) -> Global {
         self.rt.alloc()
     }
 
+    /// Whether there is a word `i`.
     pub fn is_given(&self, i: usize) -> bool
         ensures { result ≡ nat_lt i (vec_len self.now.words) }
     {
@@ -86,7 +94,7 @@ impl<'r> Args<'r> {
         self.word(i, TEXT_LIMIT)
     }
 
-    /// The number that word `i` is.
+    /// The number that word `i` is, in decimal digits; none if it is none, or there is none.
     #[tactic(auto, using(text::proofs::Decimals::empty))]
     pub fn number(&self, i: usize) -> Option<u64>
         ensures { vec_len self.now.words ≤ i → result ≡ None }
@@ -123,13 +131,17 @@ impl<'r> Args<'r> {
 
     // What standard input holds.
     fn standard_input(&self, limit: usize) -> Result<Vec<u8>, Complaint<'_>>
-        ensures { IfOk result (λ bytes. vec_len bytes ≤ limit) }
+        ensures within { IfOk result (λ bytes. vec_len bytes ≤ limit) }
+        ensures input { IfErr result (λ e. is_of_usage e ≡ false) }
     {
         read_all(self.alloc(), self.rt.stdin(), limit)
     }
 
-    // What the file that word `i` names holds, or standard input.
-    fn file_at(&self, i: usize) -> Result<Vec<u8>, Complaint<'_>> {
+    // What the file that word `i` names holds, or standard input if there is no such word.
+    fn file_at(&self, i: usize) -> Result<Vec<u8>, Complaint<'_>>
+        ensures within { IfOk result (λ bytes. vec_len bytes ≤ 65536) }
+        ensures input { IfErr result (λ e. is_of_usage e ≡ false) }
+    {
         if self.is_given(i) {
             file(self.rt, self.word(i, PATH_LIMIT))
         } else {
@@ -137,16 +149,21 @@ impl<'r> Args<'r> {
         }
     }
 
-    /// The record whose text form that is; by its image.
-    pub fn record_at(&self, i: usize) -> Result<[u8; RECORD_SIZE], Complaint<'_>> {
+    /// The record whose text form the file has that word `i` names, or standard input if there is
+    /// no such word; by its image.
+    pub fn record_at(&self, i: usize) -> Result<[u8; RECORD_SIZE], Complaint<'_>>
+        ensures { IfErr result (λ e. is_of_usage e ≡ false) }
+    {
         let text = self.file_at(i)?;
         let record = form::image_of(text.as_slice())?;
         Ok(record)
     }
 
-    /// The same of the last word.
+    /// The same of the last word: a word behind it is too many.
     pub fn last_record_at(&self, i: usize) -> Result<[u8; RECORD_SIZE], Complaint<'_>>
-        ensures { i + 1 < vec_len self.now.words → IsErrOf result Complaint.Surplus }
+        ensures more { i + 1 < vec_len self.now.words → IsErrOf result Complaint.Surplus }
+        ensures last { vec_len self.now.words ≤ i + 1
+            → IfErr result (λ e. is_of_usage e ≡ false) }
     {
         if self.is_followed(i) {
             return Err(Complaint::Surplus);
@@ -242,7 +259,8 @@ fn read_all<'a, R: Read + Drop>(
     source: R,
     limit: usize,
 ) -> Result<Vec<u8>, Complaint<'a>>
-    ensures { IfOk result (λ bytes. vec_len bytes ≤ limit) }
+    ensures within { IfOk result (λ bytes. vec_len bytes ≤ limit) }
+    ensures input { IfErr result (λ e. is_of_usage e ≡ false) }
 {
     let mut bytes = Vec::new(alloc);
     let read = source
@@ -258,7 +276,10 @@ fn read_all<'a, R: Read + Drop>(
 }
 
 // What a file holds.
-fn file<'a>(rt: &HostRuntime, path: &'a [u8]) -> Result<Vec<u8>, Complaint<'a>> {
+fn file<'a>(rt: &HostRuntime, path: &'a [u8]) -> Result<Vec<u8>, Complaint<'a>>
+    ensures within { IfOk result (λ bytes. vec_len bytes ≤ 65536) }
+    ensures input { IfErr result (λ e. is_of_usage e ≡ false) }
+{
     let Ok(name) = std::str::from_utf8(path) else {
         return Err(Complaint::NotUtf8(path));
     };

@@ -2,6 +2,9 @@
 // nothing about extensions.
 #![tactic(auto)]
 
+ghost use Rattle.std.specs.Prelude.{◌≡◌};
+ghost use Rattle.yuthpram_cli.specs.Statuses.{exit_status};
+
 mod answers;
 mod complaint;
 mod help;
@@ -15,9 +18,11 @@ use text::out::{Fate, Out};
 /// How a command ends.
 #[derive(Clone, Copy)]
 pub enum Status {
+    /// the library has an answer, or help was asked for
     Answered,
+    /// the library declines
     Refused,
-    /// not called as it should be
+    /// not called as it should be, or without an input that can be read
     Misused,
 }
 
@@ -130,7 +135,9 @@ fn answer(rt: &HostRuntime, out: &mut Out) -> Status {
 const UNREAD: u8 = 141;
 
 // The exit status, once all is written.
-fn code_of(status: Status, fate: Fate) -> u8 {
+fn code_of(status: Status, fate: Fate) -> u8
+    ensures { result ≡ exit_status fate status }
+{
     match (fate, status) {
         (Fate::Unread, _) => UNREAD,
         (Fate::Cut, _) => 3,
