@@ -1,6 +1,5 @@
 // The words of the command line, and a command's input.
-ghost use Rattle.std.specs.Prelude.{◌≡◌, ◌⊎◌, ◌+◌, ◌<◌, ◌≤◌, length, vec_len, nat_lt, false, IfSome, IfOk, IfErr, IsErrOf};
-ghost use Rattle.std.specs.List.{All};
+ghost use Rattle.std.specs.Prelude.{◌≡◌, ◌⊎◌, ◌+◌, ◌<◌, ◌≤◌, length, vec_len, nat_lt, false, IfOk, IfErr, IsErrOf};
 ghost use Rattle.yuthpram_cli.specs.Complaints.{is_of_usage};
 
 use crate::complaint::Complaint;
@@ -34,11 +33,10 @@ pub struct Args<'r> {
 }
 
 impl<'r> Args<'r> {
-    /// The words that the program was called with. An error is that no memory is left.
-    pub fn read(rt: &'r HostRuntime) -> Result<Args<'r>, AllocError>
-        ensures { IfOk result (λ args.
-            All (λ word. IfSome word (λ bytes. vec_len bytes ≤ 262144)) args.words.items) }
-    {
+    /// The words that the program was called with. An error is that no memory is left. No clause:
+    /// what the system has is in no definition, and how long a word may be is asked where it is
+    /// used.
+    pub fn read(rt: &'r HostRuntime) -> Result<Args<'r>, AllocError> {
         let alloc = rt.alloc();
         let mut words = Vec::new(alloc);
         let mut buffer = vec![in alloc; 0u8; TEXT_LIMIT]?;
