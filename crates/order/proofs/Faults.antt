@@ -13,7 +13,7 @@
 --       and the end
 --     at_outside, at_repeat, too_short, long_enough    its answers: an entry that is no place or
 --       repeats one, and the end with and without entries missing
---     next_met            one more entry is met
+--     next_met            one more entry is met, and still no more than 22
 use Prim.Native.Nat.{ℕ, zero, suc, ◌+◌, ◌≤◌, ◌<◌}
 use mathlib.Core.Path.{◌≡◌, refl, ap, sym, ◌∙◌}
 use mathlib.Core.List.{List, [], ◌∷◌, ◌++◌}
@@ -140,7 +140,7 @@ front_distinct os (suc n) h =
     at false e = rw (le-leb places (get_or os n 0) (ltb-false _ _ e))
 
 -- so there are at most 22 of them
-turns : (os : List ℕ) (n : ℕ) → n ≤ length os → first_below n (faulty os) ≡ none → n ≤ places
+pub turns : (os : List ℕ) (n : ℕ) → n ≤ length os → first_below n (faulty os) ≡ none → n ≤ places
 turns os n h e = let d : distinct (take n os) ≡ true = sym (front_distinct os n h) ∙ ap is_none e in omega (arith, at_most (take n os) d, length-take-le n os h)
 
 -- NOTHING IS WRONG
@@ -305,10 +305,11 @@ module _ (os : List ℕ) (i : ℕ) (e : first_below i (faulty os) ≡ none) wher
     at_repeat k = let r : repeats os i ≡ true = sym (f (get_or os i 0)) ∙ k in at_fault os i e l (rw (lt-leb places (get_or os i 0) p, r))
 
     pub next_met : marked m (get_or os i 0) ≡ false
-        → (first_below (i + 1) (faulty os) ≡ none) × Met (pick (ltb (get_or os i 0) 32) (mark m (get_or os i 0)) m) (take (i + 1) os)
+        → (i + 1 ≤ places) × (first_below (i + 1) (faulty os) ≡ none) × Met (pick (ltb (get_or os i 0) 32) (mark m (get_or os i 0)) m) (take (i + 1) os)
     next_met k =
         let r : repeats os i ≡ false = sym (f (get_or os i 0)) ∙ k in
-        (one_more os i e (rw (lt-leb places (get_or os i 0) p, r)), met_more os i m l p f)
+        let n = one_more os i e (rw (lt-leb places (get_or os i 0) p, r)) in
+        (turns os (i + 1) (omega arith) n, n, met_more os i m l p f)
 
   pub too_short : i ≡ length os → i < places → some (length os) ≡ order_fault os
   too_short s l = rw (lt-ltb i places l) at (at_end os i e (sym s))

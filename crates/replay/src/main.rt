@@ -30,7 +30,8 @@ const UNTOUCHED: u64 = 0xa7a7a7a7a7a7a7a7;
 // The head of an entry: a call, what is due, and where each part of what follows ends.
 #[derive(Clone, Copy)]
 struct Head {
-    operation: Operation,
+    // none if it is not one of these operations
+    operation: Option<Operation>,
     code: u8,
     x: usize,
     y: usize,
@@ -51,11 +52,9 @@ fn two(b: &[u8], at: usize) -> usize {
     usize::from(u16::from_be_bytes(bytes_at(b, at)))
 }
 
-// None if there is no such operation. No TryFrom: its error had nothing to carry.
-fn head_of(b: &[u8; 32]) -> Option<Head> {
-    let operation = *OPERATIONS.get(usize::from(b[0]))?;
-    Some(Head {
-        operation,
+fn head_of(b: &[u8; 32]) -> Head {
+    Head {
+        operation: OPERATIONS.get(usize::from(b[0])).copied(),
         code: b[1],
         x: two(b, 2),
         y: two(b, 4),
@@ -65,7 +64,7 @@ fn head_of(b: &[u8; 32]) -> Option<Head> {
         room: two(b, 12),
         number: eight(b, 16),
         number_due: eight(b, 24),
-    })
+    }
 }
 
 // A part of a slice, or all of it where there is no such part.
@@ -185,7 +184,8 @@ fn issue_limit(x: &[u8]) -> Called {
     storing(code, limit)
 }
 
-// The settings are as many as eight bytes of `x` make; none if they are more than there are.
+// The settings are as many as eight bytes of `x` make; where they are more than there are, nothing
+// is built.
 fn new(
     x: &[u8],
     cid: &[u8],
@@ -193,14 +193,15 @@ fn new(
     payload: &[u8],
     order: &[u8],
     out: &mut [u8],
-) -> Option<u8> {
+) -> u8 {
     let mut settings = [0u64; 12];
     for (k, setting) in settings.iter_mut().enumerate() {
         *setting = eight(x, 8 * k);
     }
-    let given = settings.get(..x.len() / 8)?;
-    let code = yuthpram::yuthpram_new(given, cid, draw, payload, order, out);
-    Some(code)
+    let Some(given) = settings.get(..x.len() / 8) else {
+        return 0;
+    };
+    yuthpram::yuthpram_new(given, cid, draw, payload, order, out)
 }
 
 // What is handed to a call.
@@ -219,9 +220,9 @@ fn authenticate_cids(side: u8, i: Input<'_>) -> u8 {
     yuthpram::yuthpram_authenticate_cids(side, i.x, i.y, i.z, retry_seen, i.w)
 }
 
-fn call(operation: Operation, i: Input<'_>, out: &mut [u8]) -> Option<Called> {
+fn call(operation: Operation, i: Input<'_>, out: &mut [u8]) -> Called {
     let side = (i.number & 0xff) as u8;
-    let called = match operation {
+    match operation {
         Operation::NumberSize => counting(|n| yuthpram::yuthpram_number_size(i.number, n)),
         Operation::NumberRead => number_read(i.x),
         Operation::NumberWrite => counting(|n| yuthpram::yuthpram_number_write(i.number, out, n)),
@@ -230,7 +231,7 @@ fn call(operation: Operation, i: Input<'_>, out: &mut [u8]) -> Option<Called> {
         Operation::Default => plain(yuthpram::yuthpram_default(out)),
         Operation::Read => plain(yuthpram::yuthpram_read(side, i.x, out)),
         Operation::Write => counting(|n| yuthpram::yuthpram_write(i.x, out, n)),
-        Operation::New => plain(new(i.x, i.y, i.number, i.z, i.w, out)?),
+        Operation::New => plain(new(i.x, i.y, i.number, i.z, i.w, out)),
         Operation::Resumption => plain(yuthpram::yuthpram_validate_resumption_from(i.x, i.y)),
         Operation::IssueLimit => issue_limit(i.x),
         Operation::Check => plain(yuthpram::yuthpram_check(i.x, side)),
@@ -241,13 +242,14 @@ fn call(operation: Operation, i: Input<'_>, out: &mut [u8]) -> Option<Called> {
         Operation::OrderFault => order_fault(i.x),
         Operation::Authentication => plain(authenticate_cids(side, i)),
         Operation::Report => reported(side, i.x),
-    };
-    Some(called)
+    }
 }
 
-// The call of an entry; none where there is not so much room, or not so many settings.
-fn answer_of(h: Head, body: &[u8], out: &mut [u8]) -> Option<Called> {
-    let room = out.get_mut(..h.room)?;
+// The call of an entry; 255 where there is not so much room.
+fn answer_of(operation: Operation, h: Head, body: &[u8], out: &mut [u8]) -> Called {
+    let Some(room) = out.get_mut(..h.room) else {
+        return plain(255);
+    };
     let input = Input {
         number: h.number,
         x: part(body, 0, h.x),
@@ -255,7 +257,7 @@ fn answer_of(h: Head, body: &[u8], out: &mut [u8]) -> Option<Called> {
         z: part(body, h.y, h.z),
         w: part(body, h.z, h.w),
     };
-    call(h.operation, input, room)
+    call(operation, input, room)
 }
 
 // Whether `out` holds the bytes due, and what stood there behind them.
@@ -275,14 +277,12 @@ fn eights(b: &[u8]) -> [u64; 5] {
 }
 
 // What number_read and report store stands where other operations have the bytes due.
-fn agrees(h: Head, body: &[u8]) -> bool {
+fn agrees(operation: Operation, h: Head, body: &[u8]) -> bool {
     let mut out = [FILL; MOST];
-    let Some(c) = answer_of(h, body, &mut out) else {
-        return false;
-    };
+    let c = answer_of(operation, h, body, &mut out);
     let due = part(body, h.w, h.due);
     let numbers = c.code == h.code && c.number == Some(h.number_due);
-    let has_values = h.operation == Operation::NumberRead || h.operation == Operation::Report;
+    let has_values = operation == Operation::NumberRead || operation == Operation::Report;
     if has_values && h.code == 0 {
         return numbers && c.values == Some(eights(due)) && holds(&out, b"");
     }
@@ -313,24 +313,20 @@ fn next<'a>(list: &mut Stdin, buf: &'a mut [u8], n: usize) -> Option<&'a [u8]> {
     Some(bytes)
 }
 
-// What stands behind an entry's head: whether its call agrees; none if the list ends within the
-// entry, or the entry is too long.
-fn judged(list: &mut Stdin, h: Head) -> Option<bool> {
-    let mut body = [0u8; LONGEST];
-    next(list, &mut body, h.due)?;
-    Some(agrees(h, &body))
-}
-
-// One entry; none where the list ends, with it or within it, or has no such entry.
+// One entry; none where the list ends, with it or within it, or the entry is too long. One of
+// another operation is passed over.
 fn entry(list: &mut Stdin, tallies: &mut [Tally; OPERATIONS.len()]) -> Option<()> {
     let mut head = [0u8; 32];
     next(list, &mut head, 32)?;
-    let h = head_of(&head)?;
-    let agreed = judged(list, h);
-    if let Some(tally) = tallies.get_mut(h.operation as usize) {
-        tally.count(agreed == Some(true));
+    let h = head_of(&head);
+    let mut body = [0u8; LONGEST];
+    let is_whole = next(list, &mut body, h.due).is_some();
+    if let Some(operation) = h.operation {
+        if let Some(tally) = tallies.get_mut(operation as usize) {
+            tally.count(is_whole && agrees(operation, h, &body));
+        }
     }
-    agreed.map(|_| ())
+    is_whole.then_some(())
 }
 
 // Goes through the list. The count of turns is for the proof that it ends: no list is so long.
