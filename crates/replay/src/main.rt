@@ -186,14 +186,7 @@ fn issue_limit(x: &[u8]) -> Called {
 
 // The settings are as many as eight bytes of `x` make; where they are more than there are, nothing
 // is built.
-fn new(
-    x: &[u8],
-    cid: &[u8],
-    draw: u64,
-    payload: &[u8],
-    order: &[u8],
-    out: &mut [u8],
-) -> u8 {
+fn new(x: &[u8], cid: &[u8], draw: u64, payload: &[u8], order: &[u8], out: &mut [u8]) -> u8 {
     let mut settings = [0u64; 12];
     for (k, setting) in settings.iter_mut().enumerate() {
         *setting = eight(x, 8 * k);
@@ -260,9 +253,15 @@ fn answer_of(operation: Operation, h: Head, body: &[u8], out: &mut [u8]) -> Call
     call(operation, input, room)
 }
 
-// Whether `out` holds the bytes due, and what stood there behind them.
+// Whether `out` holds the bytes due, and what stood there behind them: by slices, which are compared
+// eight bytes and more at a time.
 fn holds(out: &[u8; MOST], due: &[u8]) -> bool {
-    out.starts_with(due) && out.iter().skip(due.len()).all(|b| *b == FILL)
+    let before = [FILL; MOST];
+    let n = due.len();
+    if MOST < n {
+        return false;
+    }
+    &out[..n] == due && &out[n..] == &before[n..]
 }
 
 // Five numbers of eight bytes each; 0 where there are none.
