@@ -26,8 +26,9 @@ pub struct Optional<T> {
     pub value: T,
 }
 
-/// A stateless reset token (RFC 9000 section 10.3).
-#[derive(Clone, Copy, Debug, Default, PartialEq, Eq)]
+/// A stateless reset token (RFC 9000 section 10.3). No `==`: a comparison of secrets would have to
+/// take constant time.
+#[derive(Clone, Copy, Debug, Default)]
 pub struct ResetToken {
     /// as they are sent
     pub bytes: [u8; 16],
@@ -53,8 +54,8 @@ pub type SocketAddrV4 = SocketAddr<4>;
 pub type SocketAddrV6 = SocketAddr<16>;
 
 /// Where a server would rather be reached (RFC 9000 section 18.2): an address of one family or of
-/// both.
-#[derive(Clone, Copy, Debug, Default, PartialEq, Eq)]
+/// both. No `==`, since it has a token.
+#[derive(Clone, Copy, Debug, Default)]
 pub struct PreferredAddress {
     /// whether there is one; if not, all else is absent and zero
     pub present: bool,
@@ -130,7 +131,7 @@ impl<const N: usize> SocketAddr<N> {
     pub fn is_unspecified(self) -> bool
         ensures { result ≡ unspecified (of_address self.entry) }
     {
-        all_zero(&self.ip) & (self.port == 0)
+        zero_from(&self.ip, 0) & (self.port == 0)
     }
 }
 
@@ -172,7 +173,7 @@ fn formed_number(o: Option<u64>) -> bool
     o.unwrap_or(0) <= VarInt::MAX.0
 }
 
-// By `zero_from`, which goes by words, as an ID: `all_zero` goes by bytes.
+// By `zero_from`, which goes by words, as an ID and the addresses: `all_zero` goes by bytes.
 #[tactic(auto, using(std::proofs::lemmas::Bool::Decides::nat_tests), unfolding(crate::specs::Record::formed_optional_token, crate::specs::Record::formed_token, refusal::specs::Outcome::all))]
 fn formed_token(o: &Optional<ResetToken>) -> bool
     ensures { result ≡ formed_optional_token o.now }
@@ -185,7 +186,7 @@ fn formed_token(o: &Optional<ResetToken>) -> bool
 fn formed_family<const N: usize>(a: &SocketAddr<N>) -> bool
     ensures { result ≡ formed_family N (of_address a.now) }
 {
-    a.present | (all_zero(&a.ip) & (a.port == 0))
+    a.present | (zero_from(&a.ip, 0) & (a.port == 0))
 }
 
 #[tactic(auto, using(std::proofs::lemmas::Bool::Decides::nat_tests, crate::proofs::Tests::at_most), unfolding(crate::specs::Record::formed_reserved, refusal::specs::Outcome::all))]
