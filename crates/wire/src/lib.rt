@@ -39,7 +39,9 @@ pub fn put_value(due: bool, id: u64, v: &[u8], out: &mut [u8]) -> usize
 }
 
 // One that is due; a function of its own, so that callers only test whether it is. Most identifiers
-// and lengths are one byte.
+// and lengths are one byte. Not inlined: of its arguments the compiler knows that they are apart,
+// so that copying asks for no `memmove` from outside.
+#[inline(never)]
 #[tactic(auto, using(crate::proofs::Put::due_short))]
 fn put_due(id: u64, v: &[u8], out: &mut [u8]) -> usize
     ensures { (result, out.new) ≡ put (due_value true id v.now) out.old }

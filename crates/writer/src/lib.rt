@@ -67,7 +67,7 @@ fn put_versions(v: &VersionInformation, out: &mut [u8]) -> usize
 
 // Each lays the parameter due at a place, if it is, behind the first `at` bytes, notes where the
 // next place starts, and gives that. `at` is no field, by which writing is slower; so what holds
-// before a place is a clause of each, and no invariant. Three end in the same two lines: a helper
+// before a place is a clause of each, and no invariant. Four end in the same two lines: a helper
 // would be longer than what it saves. Those that several places have are inlined: there a place's
 // identifier is a constant.
 impl Draft {
