@@ -20,7 +20,7 @@ use mathlib.Core.Bool.{Bool, true, false, ◌&&◌, and-false, and-true}
 use native.Mathlib.Omega.{arith}
 use native.Mathlib.Nat.{zero-add, div-one}
 use lib.ListN.{length, take, drop, set, length-append, length-take}
-use lib.Seq.{take-append_seam}
+use lib.Seq.{take-append_seam, paste}
 use lib.Dec.{ltb, leb}
 use borrow.Author.Tests.{lt-ltb, le-ltb, le-leb, lt-leb, ltb-true, ltb-false, leb-true, leb-false}
 use Rattle.refusal.specs.Outcome.{Outcome, accepted, refused, pick, front, store}
@@ -29,7 +29,7 @@ use Rattle.varint.proofs.Bytes.{tag_0, tag_le, length_form, width_range}
 use Rattle.catalogue.specs.Catalogue.{parameter, parameter_if}
 use Rattle.wire.specs.Wire.{put, head_of, Headed, due_value, due_number}
 use Rattle.wire.specs.Stored.{Wrote}
-use Rattle.wire.proofs.Stored.{lent, back, whole, back_same, length_lent, front_nil, front_then, front_two, length_front, behind}
+use Rattle.wire.proofs.Stored.{lent, back, whole, back_same, length_lent, front_nil, front_paste, front_then, front_two, length_front, behind}
 
 -- STORING
 pub put_whole : (n : ℕ) (bs out m : List ℕ) → length bs ≤ length out → n ≡ length bs → m ≡ front bs out → (n, m) ≡ put bs out
@@ -44,9 +44,8 @@ pub put_nil : (out : List ℕ) → (0, out) ≡ put [] out
 put_nil out = put_whole 0 [] out out (omega arith) refl (sym (front_nil out))
 
 -- copied to the front
-pub put_copied : (bs out m : List ℕ) → length bs ≤ length out → m ≡ bs → (length bs, m ++ drop (length bs) out) ≡ put bs out
-unfolding front
-put_copied bs out m h e = put_whole (length bs) bs out _ h refl (ap (λ (s : List ℕ). s ++ drop (length bs) out) e)
+pub put_copied : (bs out m : List ℕ) (i : ℕ) → length bs ≤ length out → i ≡ length bs → m ≡ paste out 0 bs i → (length bs, m) ≡ put bs out
+put_copied bs out m i h k e = put_whole (length bs) bs out m h refl (e ∙ front_paste bs out i k)
 
 pub put_wrote : (most n : ℕ) (bs out m : List ℕ) → length bs ≤ most → most ≤ length out → (n, m) ≡ put bs out → Wrote most bs out n m
 put_wrote most n bs out m h k e =

@@ -1,4 +1,5 @@
 -- What writers leave, one after another. Assumes nothing.
+--     front_paste, copied    bytes stored one at a time
 --     front_then      bytes stored behind others, in the part lent for them
 --     front_two       bytes stored behind two that are stored afterwards
 --     wrote_then      one writer after another
@@ -12,10 +13,11 @@ use mathlib.Core.Path.{◌≡◌, refl, ap, ap₂, sym, ◌∙◌}
 use native.Mathlib.Omega.{arith}
 use native.Mathlib.Nat.{zero-add}
 use native.Mathlib.Numerals.{add-one}
-use lib.ListN.{length, take, drop, set, length-append, length-drop, take-append-drop, drop_of_length-le}
+use lib.ListN.{length, get_or, take, drop, set, length-append, length-drop, take-append-drop, drop_of_length-le}
 use lib.Seq.{take-length, take-append_seam, drop-append_seam, drop-drop, paste}
 use borrow.Author.Tests.{le-leb, lt-leb}
 use Rattle.std.proofs.lemmas.List.{take_rest}
+use Rattle.std.proofs.lemmas.List.Edits.{paste_more}
 use Rattle.refusal.specs.Outcome.{Outcome, accepted, refused, front, store}
 use Rattle.wire.specs.Stored.{Wrote, joined, each}
 
@@ -26,6 +28,10 @@ front_nil l = refl
 pub front_paste : (s l : List ℕ) (i : ℕ) → i ≡ length s → paste l 0 s i ≡ front s l
 unfolding front
 front_paste s l i e = simp (e, take-length, zero-add)
+
+-- a byte at a time
+pub copied : (out bs m : List ℕ) (i : ℕ) → i < length out → i < length bs → m ≡ paste out 0 bs i → set m i (get_or bs i 0) ≡ paste out 0 bs (i + 1)
+copied out bs m i h k e = rw e (ap (λ (j : ℕ). set (paste out 0 bs i) j (get_or bs i 0)) (sym (zero-add i)) ∙ paste_more out 0 bs i 0 (omega arith) k)
 
 pub length_front : (s l : List ℕ) → length s ≤ length l → length (front s l) ≡ length l
 unfolding front

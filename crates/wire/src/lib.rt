@@ -15,15 +15,18 @@ ghost use Rattle.wire.specs.Wire.{put, head_of, Headed, due_value, due_number};
 use refusal::Refusal;
 use varint::VarInt;
 
-/// Copies the bytes.
-#[tactic(auto, using(crate::proofs::Put::put_none, crate::proofs::Put::put_copied))]
+/// Copies the bytes, by a loop: `copy_from_slice` tests each time that the two are apart, and asks
+/// for `memmove` from outside.
+#[tactic(auto, using(crate::proofs::Put::put_none, crate::proofs::Stored::copied))]
 pub fn put_bytes(bytes: &[u8], out: &mut [u8]) -> usize
     ensures { (result, out.new) ≡ put bytes.now out.old }
 {
     if out.len() < bytes.len() {
         return 0;
     }
-    out[..bytes.len()].copy_from_slice(bytes);
+    for i in 0..bytes.len() {
+        out[i] = bytes[i];
+    }
     bytes.len()
 }
 
@@ -39,9 +42,7 @@ pub fn put_value(due: bool, id: u64, v: &[u8], out: &mut [u8]) -> usize
 }
 
 // One that is due; a function of its own, so that callers only test whether it is. Most identifiers
-// and lengths are one byte. Not inlined: of its arguments the compiler knows that they are apart,
-// so that copying asks for no `memmove` from outside.
-#[inline(never)]
+// and lengths are one byte.
 #[tactic(auto, using(crate::proofs::Put::due_short))]
 fn put_due(id: u64, v: &[u8], out: &mut [u8]) -> usize
     ensures { (result, out.new) ≡ put (due_value true id v.now) out.old }

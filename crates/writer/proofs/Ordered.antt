@@ -19,7 +19,6 @@ use lib.Seq.{length-take-le, take_all, take-suc, take_at, take-append-add, take-
 use borrow.Author.Tests.{eqb-true, eqb-false}
 use lib.Dec.{eqb}
 use Rattle.std.proofs.lemmas.List.{take_rest}
-use Rattle.std.proofs.lemmas.List.Edits.{paste_more}
 use Rattle.refusal.specs.Outcome.{front}
 use Rattle.refusal.proofs.Laws.{all_at}
 use Rattle.record.specs.declared.TransportParameters.{TransportParameters}
@@ -90,10 +89,6 @@ pub slice_front : (from len : ℕ) (parts out ys : List ℕ) → ys ≡ front (t
 slice_front from len parts out ys e =
     let z : from + len - from ≡ len = omega arith in
     rw z at e
-
--- a byte at a time
-pub copied : (out bs m : List ℕ) (i : ℕ) → i < length out → i < length bs → m ≡ paste out 0 bs i → set m i (get_or bs i 0) ≡ paste out 0 bs (i + 1)
-copied out bs m i h k e = rw e (ap (λ (j : ℕ). set (paste out 0 bs i) j (get_or bs i 0)) (sym (zero-add i)) ∙ paste_more out 0 bs i 0 (omega arith) k)
 
 -- one more block, and no more than asked for
 pub block_more : (i room : ℕ) (part out m ys : List ℕ) → Front i room part out m → i + 16 ≤ room → room ≤ length out → i + 16 ≤ length part

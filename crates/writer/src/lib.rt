@@ -227,7 +227,7 @@ fn put_part(len: usize, room: usize, part: &[u8], out: &mut [u8])
 
 // Copies the bytes by a loop: `copy_from_slice` is a call for each part, most of them empty, and
 // tests each time that the two are apart.
-#[tactic(auto, using(wire::proofs::Stored::front_paste, crate::proofs::Ordered::copied))]
+#[tactic(auto, using(wire::proofs::Stored::front_paste, wire::proofs::Stored::copied))]
 fn put_few(bytes: &[u8], out: &mut [u8])
     requires { length bytes.now ≤ length out.old }
     ensures { out.new ≡ front bytes.now out.old }
