@@ -4,7 +4,7 @@ use Rattle.text.specs.declared.HexError.{HexError}
 use Rattle.text.specs.declared.HexError.TheVariants.{Strange, Odd, Long}
 use Rattle.form.specs.Complaints.{slip_text}
 use Rattle.yuthpram_cli.specs.declared.complaint.Complaint.{Complaint}
-use Rattle.yuthpram_cli.specs.declared.complaint.Complaint.TheVariants.{NoCommand, Surplus, NotDecimal, NoRemembered, NoIds, NoSide, NoId, TooLong, NoDigit, OddDigits, NoEntry, ManyEntries, NotUtf8, Unread, Slip, NoMemory}
+use Rattle.yuthpram_cli.specs.declared.complaint.Complaint.TheVariants.{NoCommand, Surplus, NotDecimal, NoRemembered, NoIds, NoSide, NoId, TooLong, NoDigit, OddDigits, NoEntry, ManyEntries, NotUtf8, Unread, Slip}
 
 -- those about words that no command takes
 abbrev pub is_of_usage : Complaint → Bool
@@ -42,4 +42,3 @@ complaint_text ManyEntries = Some (codes "the order is over the limit of 255 ent
 complaint_text (NotUtf8 path) = Some (codes "the name is not UTF-8")
 complaint_text (Unread what e) = None
 complaint_text (Slip slip) = Some (slip_text slip)
-complaint_text NoMemory = Some (codes "no memory is left")

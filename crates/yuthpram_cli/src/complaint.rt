@@ -3,7 +3,6 @@ ghost use Rattle.std.specs.Prelude.{◌≡◌};
 ghost use Rattle.yuthpram_cli.specs.Complaints.{is_of_usage};
 
 use form::Slip;
-use std::alloc::{AllocError, AllocFailed};
 use std::fmt;
 use std::fmt::Display;
 use std::io::Error;
@@ -42,7 +41,6 @@ pub enum Complaint<'a> {
     Unread(&'a str, Error),
     /// a line of a record's text form that is amiss
     Slip(Slip),
-    NoMemory,
 }
 
 impl<'a> Complaint<'a> {
@@ -96,30 +94,7 @@ impl<'a> Display for Complaint<'a> {
             Complaint::NotUtf8(_) => write!(f, "the name is not UTF-8"),
             Complaint::Unread(_, e) => write!(f, "{e}"),
             Complaint::Slip(slip) => write!(f, "{slip}"),
-            Complaint::NoMemory => write!(f, "no memory is left"),
         }
-    }
-}
-
-impl<'a> From<AllocError> for Complaint<'a> {
-    ghost use Rattle.std.specs.Prelude.{◌≡◌};
-    ghost use Rattle.yuthpram_cli.specs.declared.complaint.Complaint.TheVariants.{NoMemory};
-
-    ghost from_gives = { λ _ complaint. complaint ≡ NoMemory };
-
-    fn from(_e: AllocError) -> Complaint<'a> {
-        Complaint::NoMemory
-    }
-}
-
-impl<'a, T: Drop> From<AllocFailed<T>> for Complaint<'a> {
-    ghost use Rattle.std.specs.Prelude.{◌≡◌};
-    ghost use Rattle.yuthpram_cli.specs.declared.complaint.Complaint.TheVariants.{NoMemory};
-
-    ghost from_gives = { λ _ complaint. complaint ≡ NoMemory };
-
-    fn from(_e: AllocFailed<T>) -> Complaint<'a> {
-        Complaint::NoMemory
     }
 }
 

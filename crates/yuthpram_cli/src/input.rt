@@ -1,15 +1,16 @@
-// The words of the command line, and a command's input.
-ghost use Rattle.std.specs.Prelude.{◌≡◌, ◌⊎◌, ◌+◌, ◌<◌, ◌≤◌, length, vec_len, nat_lt, false, IfOk, IfErr, IsErrOf};
+// The words of the command line, and a command's input. The buffers are the callers': but for the
+// system's words of what could not be read, no input and no complaint needs the heap.
+ghost use Rattle.std.specs.Prelude.{◌≡◌, ◌⊎◌, ◌+◌, ◌<◌, ◌≤◌, length, nat_lt, false, IfOk, IfErr, IsErrOf};
 ghost use Rattle.yuthpram_cli.specs.Complaints.{is_of_usage};
 
 use crate::complaint::Complaint;
 use differing::SeenImages;
 use image::{CID_SIZE, RECORD_SIZE};
 use rules::Side;
-use std::alloc::{AllocError, Global};
+use std::alloc::Global;
 use std::env::{Env, FillError};
 use std::fs;
-use std::io::Read;
+use std::io::{ErrorKind, Read};
 use text::{parse_decimal, parse_hex, words_of};
 
 // The limits, in bytes, in characters of hexadecimal text, and in entries of an order.
@@ -19,39 +20,43 @@ const TEXT_LIMIT: usize = 262144;
 
 const ENTRY_LIMIT: usize = 255;
 
-// The longest path, and the longest decimal number.
-const PATH_LIMIT: usize = 4096;
+/// The room for an input, and that for an order: one over the limit, so that what is over it shows.
+pub const ROOM: usize = LIMIT + 1;
+
+const TEXT_ROOM: usize = TEXT_LIMIT + 1;
+
+pub const ENTRY_ROOM: usize = ENTRY_LIMIT + 1;
+
+/// The longest name of a command, an option or a side that is looked at, the longest path, and the
+/// longest decimal number.
+pub const NAME_LIMIT: usize = 32;
+
+pub const PATH_LIMIT: usize = 4096;
 
 const DIGIT_LIMIT: usize = 32;
 
-/// The words of the command line, counted from 0, which is the program's name, and the system,
-/// which has what they name. In place of a word of over `TEXT_LIMIT` bytes stands none.
+/// The words of the command line, counted from 0, which is the program's name: the system, which
+/// has them and what they name, and how many there are.
 #[derive(Drop)]
 pub struct Args<'r> {
     rt: &'r HostRuntime,
-    words: Vec<Option<Vec<u8>>>,
+    count: usize,
 }
 
 impl<'r> Args<'r> {
-    /// The words that the program was called with. An error is that no memory is left. No clause:
-    /// what the system has is in no definition, and how long a word may be is asked where it is
-    /// used.
-    pub fn read(rt: &'r HostRuntime) -> Result<Args<'r>, AllocError> {
-        let alloc = rt.alloc();
-        let mut words = Vec::new(alloc);
-        let mut buffer = vec![in alloc; 0u8; TEXT_LIMIT]?;
-        // By index: `env::args` gives Strings, and a path need not be UTF-8.
-        for i in 0..usize::MAX {
-            match rt.arg(i, buffer.as_mut_slice()) {
-                Ok(n) => {
-                    let word = Vec::from_slice(alloc, &buffer[..n])?;
-                    words.push(Some(word))?;
-                }
-                Err(FillError::TooLong) => words.push(None)?,
-                Err(FillError::NotPresent) => break,
+    /// The words that the program was called with. No clause: how many the system has is in no
+    /// definition.
+    pub fn read(rt: &'r HostRuntime) -> Args<'r> {
+        let mut buffer = [0u8; 1];
+        for count in 0..usize::MAX {
+            if let Err(FillError::NotPresent) = rt.arg(count, &mut buffer) {
+                return Args { rt, count };
             }
         }
-        Ok(Args { rt, words })
+        Args {
+            rt,
+            count: usize::MAX,
+        }
     }
 
     /// The allocator of the system.
@@ -61,138 +66,168 @@ impl<'r> Args<'r> {
 
     /// Whether there is a word `i`.
     pub fn is_given(&self, i: usize) -> bool
-        ensures { result ≡ nat_lt i (vec_len self.now.words) }
+        ensures { result ≡ nat_lt i self.now.count }
     {
-        i < self.words.len()
+        i < self.count
     }
 
     /// Whether there are words behind word `i`.
     pub fn is_followed(&self, i: usize) -> bool
-        ensures { result ≡ nat_lt (i + 1) (vec_len self.now.words) }
+        ensures { result ≡ nat_lt (i + 1) self.now.count }
     {
-        self.is_given(i.saturating_add(1))
+        i.saturating_add(1) < self.count
     }
 
-    // Word `i`; empty if there is none, or if it has more than `limit` bytes.
-    fn word(&self, i: usize, limit: usize) -> &[u8]
-        ensures there { vec_len self.now.words ≤ i → length result.now ≡ 0 }
-        ensures short { length result.now ≤ limit }
+    // Word `i`, in a buffer; empty if there is none, or no room for it.
+    fn word<'b>(&self, i: usize, buffer: &'b mut [u8]) -> &'b [u8]
+        ensures there { self.now.count ≤ i → length result.now ≡ 0 }
+        ensures short { length result.now ≤ length buffer.old }
     {
-        match self.words.get(i) {
-            Some(Some(word)) if word.len() <= limit => word.as_slice(),
-            _ => &[],
+        if !self.is_given(i) {
+            return &[];
+        }
+        match self.rt.arg(i, buffer) {
+            Ok(n) => &buffer[..n],
+            Err(_) => &[],
         }
     }
 
-    /// Word `i`, as the name of a command, an option or a side.
-    pub fn name(&self, i: usize) -> &[u8]
-        ensures there { vec_len self.now.words ≤ i → length result.now ≡ 0 }
-        ensures short { length result.now ≤ 262144 }
+    /// Word `i`, as the name of a command, an option or a side; empty if it is longer than any.
+    pub fn name<'b>(&self, i: usize, buffer: &'b mut [u8; NAME_LIMIT]) -> &'b [u8]
+        ensures there { self.now.count ≤ i → length result.now ≡ 0 }
+        ensures short { length result.now ≤ 32 }
     {
-        self.word(i, TEXT_LIMIT)
+        self.word(i, buffer)
     }
 
     /// The number that word `i` is, in decimal digits; none if it is none, or there is none.
     #[tactic(auto, using(text::proofs::Decimals::empty))]
     pub fn number(&self, i: usize) -> Option<u64>
-        ensures { vec_len self.now.words ≤ i → result ≡ None }
+        ensures { self.now.count ≤ i → result ≡ None }
     {
-        parse_decimal(self.word(i, DIGIT_LIMIT))
+        let mut buffer = [0u8; DIGIT_LIMIT];
+        parse_decimal(self.word(i, &mut buffer))
     }
 
     /// The side that word 2 names.
-    pub fn side(&self) -> Result<Side, Complaint<'_>>
+    pub fn side(&self) -> Result<Side, Complaint<'static>>
         ensures { IfErr result (λ e. e ≡ Complaint.NoSide) }
     {
-        match self.name(2) {
+        let mut buffer = [0u8; NAME_LIMIT];
+        match self.name(2, &mut buffer) {
             b"client" => Ok(Side::Client),
             b"server" => Ok(Side::Server),
             _ => Err(Complaint::NoSide),
         }
     }
 
-    // The words from word `start` on, a space after each.
-    fn text_from(&self, start: usize, limit: usize) -> Result<Vec<u8>, Complaint<'_>> {
-        let mut text = Vec::new(self.alloc());
-        for word in self.words.iter().skip(start) {
-            let Some(word) = word else {
-                return Err(Complaint::TooLong);
-            };
-            if limit.saturating_sub(text.len()) <= word.len() {
+    // The words from word `start` on, a space after each, in a buffer with a byte more.
+    fn text_from<'b>(
+        &self,
+        start: usize,
+        buffer: &'b mut [u8],
+    ) -> Result<&'b [u8], Complaint<'static>> {
+        let mut n: usize = 0;
+        for i in start..self.count {
+            match self.rt.arg(i, &mut buffer[n..]) {
+                Ok(m) => n += m,
+                Err(_) => return Err(Complaint::TooLong),
+            }
+            if buffer.len() - n < 2 {
                 return Err(Complaint::TooLong);
             }
-            text.extend_from_slice(word.as_slice())?;
-            text.push(b' ')?;
+            buffer[n] = b' ';
+            n += 1;
         }
-        Ok(text)
+        Ok(&buffer[..n])
     }
 
-    // What standard input holds.
-    fn standard_input(&self, limit: usize) -> Result<Vec<u8>, Complaint<'_>>
-        ensures within { IfOk result (λ bytes. vec_len bytes ≤ limit) }
+    // What standard input holds, in a buffer with a byte more.
+    fn standard_input<'b>(&self, buffer: &'b mut [u8]) -> Result<&'b [u8], Complaint<'static>>
+        ensures within { IfOk result (λ bytes. length bytes.now < length buffer.old) }
         ensures input { IfErr result (λ e. is_of_usage e ≡ false) }
     {
-        read_all(self.alloc(), self.rt.stdin(), limit)
+        read_all(self.rt.stdin(), buffer)
     }
 
     // What the file that word `i` names holds, or standard input if there is no such word.
-    fn file_at(&self, i: usize) -> Result<Vec<u8>, Complaint<'_>>
-        ensures within { IfOk result (λ bytes. vec_len bytes ≤ 65536) }
+    fn file_at<'a, 'b>(
+        &self,
+        i: usize,
+        path: &'a mut [u8; PATH_LIMIT],
+        buffer: &'b mut [u8; ROOM],
+    ) -> Result<&'b [u8], Complaint<'a>>
+        ensures within { IfOk result (λ bytes. length bytes.now ≤ 65536) }
         ensures input { IfErr result (λ e. is_of_usage e ≡ false) }
     {
         if self.is_given(i) {
-            file(self.rt, self.word(i, PATH_LIMIT))
+            file(self.rt, self.word(i, path), buffer)
         } else {
-            self.standard_input(LIMIT)
+            self.standard_input(buffer)
         }
     }
 
     /// The record whose text form the file has that word `i` names, or standard input if there is
-    /// no such word; by its image.
-    pub fn record_at(&self, i: usize) -> Result<[u8; RECORD_SIZE], Complaint<'_>>
+    /// no such word; by its image. A complaint may be about the path, which is put into a buffer.
+    pub fn record_at<'a>(
+        &self,
+        i: usize,
+        path: &'a mut [u8; PATH_LIMIT],
+    ) -> Result<[u8; RECORD_SIZE], Complaint<'a>>
         ensures { IfErr result (λ e. is_of_usage e ≡ false) }
     {
-        let text = self.file_at(i)?;
-        let record = form::image_of(text.as_slice())?;
+        let mut buffer = [0u8; ROOM];
+        let text = self.file_at(i, path, &mut buffer)?;
+        let record = form::image_of(text)?;
         Ok(record)
     }
 
     /// The same of the last word: a word behind it is too many.
-    pub fn last_record_at(&self, i: usize) -> Result<[u8; RECORD_SIZE], Complaint<'_>>
-        ensures more { i + 1 < vec_len self.now.words → IsErrOf result Complaint.Surplus }
-        ensures last { vec_len self.now.words ≤ i + 1
+    pub fn last_record_at<'a>(
+        &self,
+        i: usize,
+        path: &'a mut [u8; PATH_LIMIT],
+    ) -> Result<[u8; RECORD_SIZE], Complaint<'a>>
+        ensures more { i + 1 < self.now.count → IsErrOf result Complaint.Surplus }
+        ensures last { self.now.count ≤ i + 1
             → IfErr result (λ e. is_of_usage e ≡ false) }
     {
         if self.is_followed(i) {
             return Err(Complaint::Surplus);
         }
-        self.record_at(i)
+        self.record_at(i, path)
     }
 
-    /// The connection ID that word `i` is; by its image.
-    pub fn cid_at(&self, i: usize) -> Result<[u8; CID_SIZE], Complaint<'_>>
-        ensures none { vec_len self.now.words ≤ i → IsErrOf result Complaint.NoIds }
-        ensures one { i < vec_len self.now.words
+    /// The connection ID that word `i` is, which is put into a buffer; by its image.
+    pub fn cid_at(
+        &self,
+        i: usize,
+        buffer: &mut [u8; TEXT_LIMIT],
+    ) -> Result<[u8; CID_SIZE], Complaint<'static>>
+        ensures none { self.now.count ≤ i → IsErrOf result Complaint.NoIds }
+        ensures one { i < self.now.count
             → IfErr result (λ e. (e ≡ Complaint.NoId) ⊎ (e ≡ Complaint.TooLong)) }
     {
-        match self.words.get(i) {
-            Some(Some(digits)) => {
-                form::cid_image_of(digits.as_slice()).map_err(|_| Complaint::NoId)
-            }
-            Some(None) => Err(Complaint::TooLong),
-            None => Err(Complaint::NoIds),
+        if !self.is_given(i) {
+            return Err(Complaint::NoIds);
+        }
+        match self.rt.arg(i, buffer) {
+            Ok(n) => form::cid_image_of(&buffer[..n]).map_err(|_| Complaint::NoId),
+            Err(_) => Err(Complaint::TooLong),
         }
     }
 
     /// The IDs that words 3 to 5 say packets carried.
-    pub fn seen(&self) -> Result<SeenImages, Complaint<'_>>
-        ensures { IfOk result (λ seen. 5 < vec_len self.now.words) }
+    pub fn seen(&self) -> Result<SeenImages, Complaint<'static>>
+        ensures { IfOk result (λ seen. 5 < self.now.count) }
     {
-        let initial_src_cid = self.cid_at(3)?;
-        let original_dst_cid = self.cid_at(4)?;
-        let retry_src_cid = match self.name(5) {
+        let mut digits = [0u8; TEXT_LIMIT];
+        let initial_src_cid = self.cid_at(3, &mut digits)?;
+        let original_dst_cid = self.cid_at(4, &mut digits)?;
+        let mut buffer = [0u8; NAME_LIMIT];
+        let retry_src_cid = match self.name(5, &mut buffer) {
             b"none" => None,
-            _ => Some(self.cid_at(5)?),
+            _ => Some(self.cid_at(5, &mut digits)?),
         };
         Ok(SeenImages {
             initial_src_cid,
@@ -201,88 +236,105 @@ impl<'r> Args<'r> {
         })
     }
 
-    // The words from word `start` on, or what standard input holds if there are none.
-    fn text_at(&self, start: usize, limit: usize) -> Result<Vec<u8>, Complaint<'_>> {
+    // The words from word `start` on, or what standard input holds if there are none, in a buffer
+    // with a byte more.
+    fn text_at<'b>(
+        &self,
+        start: usize,
+        buffer: &'b mut [u8],
+    ) -> Result<&'b [u8], Complaint<'static>> {
         if self.is_given(start) {
-            self.text_from(start, limit)
+            self.text_from(start, buffer)
         } else {
-            self.standard_input(limit)
+            self.standard_input(buffer)
         }
     }
 
     /// Bytes, in hexadecimal by the words from word `start` on or in standard input, or by --raw as
-    /// standard input has them.
-    pub fn bytes_at(&self, start: usize) -> Result<Vec<u8>, Complaint<'_>>
-        ensures { IfOk result (λ bytes. vec_len bytes ≤ 65536) }
+    /// standard input has them; in a buffer.
+    pub fn bytes_at<'b>(
+        &self,
+        start: usize,
+        buffer: &'b mut [u8; ROOM],
+    ) -> Result<&'b [u8], Complaint<'static>>
+        ensures { IfOk result (λ bytes. length bytes.now ≤ 65536) }
     {
-        if let b"--raw" = self.name(start) {
+        let mut name = [0u8; NAME_LIMIT];
+        if let b"--raw" = self.name(start, &mut name) {
             if self.is_followed(start) {
                 return Err(Complaint::Surplus);
             }
-            return self.standard_input(LIMIT);
+            return self.standard_input(buffer);
         }
-        let text = self.text_at(start, TEXT_LIMIT)?;
-        let mut bytes = vec![in self.alloc(); 0u8; LIMIT]?;
-        let n = parse_hex(text.as_slice(), bytes.as_mut_slice(), 0, LIMIT)?;
-        bytes.truncate(n);
-        Ok(bytes)
+        let mut room = [0u8; TEXT_ROOM];
+        let text = self.text_at(start, &mut room)?;
+        let bytes = &mut buffer[..LIMIT];
+        let n = parse_hex(text, bytes, 0, LIMIT)?;
+        Ok(bytes.get(..n).unwrap_or(bytes))
     }
 
     /// The entries of an order that the words from word `start` on are, or standard input lists:
-    /// decimal numbers below 256.
-    pub fn entries_at(&self, start: usize) -> Result<Vec<u8>, Complaint<'_>>
-        ensures { IfOk result (λ entries. vec_len entries ≤ 255) }
+    /// decimal numbers below 256; in a buffer.
+    pub fn entries_at<'b>(
+        &self,
+        start: usize,
+        entries: &'b mut [u8; ENTRY_ROOM],
+    ) -> Result<&'b [u8], Complaint<'static>>
+        ensures { IfOk result (λ entries. length entries.now ≤ 255) }
     {
-        let text = self.text_at(start, LIMIT)?;
-        let mut entries = Vec::new(self.alloc());
-        for (k, digits) in words_of(text.as_slice(), b' ')
-            .take(ENTRY_LIMIT + 1)
-            .enumerate()
-        {
+        let mut room = [0u8; ROOM];
+        let text = self.text_at(start, &mut room)?;
+        let mut words = words_of(text, b' ');
+        for k in 0..ENTRY_ROOM {
+            let Some(digits) = words.next() else {
+                return Ok(&entries[..k]);
+            };
             match parse_decimal(digits) {
-                Some(x) if x < 256 => entries.push(x as u8)?,
+                Some(x) if x < 256 => entries[k] = x as u8,
                 _ => return Err(Complaint::NoEntry(k)),
             }
         }
-        if ENTRY_LIMIT < entries.len() {
-            return Err(Complaint::ManyEntries);
-        }
-        Ok(entries)
+        Err(Complaint::ManyEntries)
     }
 }
 
-// All that can be read of a source.
-fn read_all<'a, R: Read + Drop>(
-    alloc: Global,
-    source: R,
-    limit: usize,
-) -> Result<Vec<u8>, Complaint<'a>>
-    ensures within { IfOk result (λ bytes. vec_len bytes ≤ limit) }
+// All that can be read of a source, in a buffer with a byte more.
+fn read_all<'b, R: Read + Drop>(
+    mut source: R,
+    buffer: &'b mut [u8],
+) -> Result<&'b [u8], Complaint<'static>>
+    ensures within { IfOk result (λ bytes. length bytes.now < length buffer.old) }
     ensures input { IfErr result (λ e. is_of_usage e ≡ false) }
 {
-    let mut bytes = Vec::new(alloc);
-    let read = source
-        .take((limit as u64).saturating_add(1))
-        .read_to_end(&mut bytes);
-    if let Err(e) = read {
-        return Err(Complaint::Unread("yuthpram: the input", e));
+    let mut n: usize = 0;
+    for _ in 0..u64::MAX {
+        if buffer.len() <= n {
+            break;
+        }
+        match source.read(&mut buffer[n..]) {
+            Ok(0) => return Ok(&buffer[..n]),
+            Ok(m) => n += m,
+            Err(e) if e.kind() == ErrorKind::Interrupted => {}
+            Err(e) => return Err(Complaint::Unread("yuthpram: the input", e)),
+        }
     }
-    if limit < bytes.len() {
-        return Err(Complaint::TooLong);
-    }
-    Ok(bytes)
+    Err(Complaint::TooLong)
 }
 
 // What a file holds.
-fn file<'a>(rt: &HostRuntime, path: &'a [u8]) -> Result<Vec<u8>, Complaint<'a>>
-    ensures within { IfOk result (λ bytes. vec_len bytes ≤ 65536) }
+fn file<'a, 'b>(
+    rt: &HostRuntime,
+    path: &'a [u8],
+    buffer: &'b mut [u8; ROOM],
+) -> Result<&'b [u8], Complaint<'a>>
+    ensures within { IfOk result (λ bytes. length bytes.now ≤ 65536) }
     ensures input { IfErr result (λ e. is_of_usage e ≡ false) }
 {
     let Ok(name) = std::str::from_utf8(path) else {
         return Err(Complaint::NotUtf8(path));
     };
     match fs::open(rt, name) {
-        Ok(source) => read_all(rt.alloc(), source, LIMIT),
+        Ok(source) => read_all(source, buffer),
         Err(e) => Err(Complaint::Unread(name, e)),
     }
 }

@@ -11,7 +11,7 @@ mod help;
 mod input;
 
 use complaint::Complaint;
-use input::Args;
+use input::{Args, ENTRY_ROOM, NAME_LIMIT, PATH_LIMIT, ROOM};
 use std::process::ExitCode;
 use text::out::{Fate, Out};
 
@@ -26,37 +26,53 @@ pub enum Status {
     Misused,
 }
 
-fn read<'a>(out: &mut Out, args: &'a Args<'_>) -> Result<Status, Complaint<'a>> {
+fn read(out: &mut Out, args: &Args<'_>) -> Result<Status, Complaint<'static>> {
     let side = args.side()?;
-    let src = args.bytes_at(3)?;
-    Ok(answers::read(out, side, src.as_slice()))
+    let mut buffer = [0u8; ROOM];
+    let src = args.bytes_at(3, &mut buffer)?;
+    Ok(answers::read(out, side, src))
 }
 
-fn tidy<'a>(out: &mut Out, args: &'a Args<'_>) -> Result<Status, Complaint<'a>> {
+fn tidy(out: &mut Out, args: &Args<'_>) -> Result<Status, Complaint<'static>> {
     let side = args.side()?;
-    let src = args.bytes_at(3)?;
-    Ok(answers::tidy(out, side, src.as_slice()))
+    let mut buffer = [0u8; ROOM];
+    let src = args.bytes_at(3, &mut buffer)?;
+    Ok(answers::tidy(out, side, src))
 }
 
-fn report<'a>(out: &mut Out, args: &'a Args<'_>) -> Result<Status, Complaint<'a>> {
+fn report(out: &mut Out, args: &Args<'_>) -> Result<Status, Complaint<'static>> {
     let side = args.side()?;
-    let src = args.bytes_at(3)?;
-    Ok(answers::report(out, args.alloc(), side, src.as_slice()))
+    let mut buffer = [0u8; ROOM];
+    let src = args.bytes_at(3, &mut buffer)?;
+    Ok(answers::report(out, args.alloc(), side, src))
 }
 
-fn check<'a>(out: &mut Out, args: &'a Args<'_>) -> Result<Status, Complaint<'a>> {
+fn check<'a>(
+    out: &mut Out,
+    args: &Args<'_>,
+    path: &'a mut [u8; PATH_LIMIT],
+) -> Result<Status, Complaint<'a>> {
     let side = args.side()?;
-    if let b"--record" = args.name(3) {
-        let record = args.last_record_at(4)?;
+    let mut name = [0u8; NAME_LIMIT];
+    if let b"--record" = args.name(3, &mut name) {
+        let record = args.last_record_at(4, path)?;
         return Ok(answers::check_record(out, side, &record));
     }
-    let src = args.bytes_at(3)?;
-    Ok(answers::check(out, side, src.as_slice()))
+    let mut buffer = [0u8; ROOM];
+    let src = args.bytes_at(3, &mut buffer)?;
+    Ok(answers::check(out, side, src))
+}
+
+fn order_fault(out: &mut Out, args: &Args<'_>) -> Result<Status, Complaint<'static>> {
+    let mut buffer = [0u8; ENTRY_ROOM];
+    let order = args.entries_at(2, &mut buffer)?;
+    Ok(answers::order_fault(out, order))
 }
 
 fn validate_resumption_from<'a>(
     out: &mut Out,
-    args: &'a Args<'_>,
+    args: &Args<'_>,
+    path: &'a mut [u8; PATH_LIMIT],
 ) -> Result<Status, Complaint<'a>> {
     if !args.is_given(2) {
         return Err(Complaint::NoRemembered);
@@ -64,7 +80,7 @@ fn validate_resumption_from<'a>(
     if args.is_followed(3) {
         return Err(Complaint::Surplus);
     }
-    let cached = match args.record_at(2) {
+    let cached = match args.record_at(2, path) {
         Ok(cached) => cached,
         Err(complaint) => {
             let status = help::complain(out, args.alloc(), &complaint);
@@ -72,19 +88,24 @@ fn validate_resumption_from<'a>(
             return Ok(status);
         }
     };
-    let record = args.record_at(3)?;
+    let record = args.record_at(3, path)?;
     Ok(answers::validate_resumption_from(out, &record, &cached))
 }
 
-fn authenticate_cids<'a>(out: &mut Out, args: &'a Args<'_>) -> Result<Status, Complaint<'a>> {
+fn authenticate_cids<'a>(
+    out: &mut Out,
+    args: &Args<'_>,
+    path: &'a mut [u8; PATH_LIMIT],
+) -> Result<Status, Complaint<'a>> {
     let side = args.side()?;
     let seen = args.seen()?;
-    let record = args.last_record_at(6)?;
+    let record = args.last_record_at(6, path)?;
     Ok(answers::authenticate_cids(out, side, &record, &seen))
 }
 
-fn number<'a>(out: &mut Out, args: &'a Args<'_>) -> Result<Status, Complaint<'a>> {
-    if let b"--write" = args.name(2) {
+fn number(out: &mut Out, args: &Args<'_>) -> Result<Status, Complaint<'static>> {
+    let mut name = [0u8; NAME_LIMIT];
+    if let b"--write" = args.name(2, &mut name) {
         if args.is_followed(3) {
             return Err(Complaint::Surplus);
         }
@@ -93,25 +114,31 @@ fn number<'a>(out: &mut Out, args: &'a Args<'_>) -> Result<Status, Complaint<'a>
         };
         return Ok(answers::encode(out, x));
     }
-    let src = args.bytes_at(2)?;
-    Ok(answers::decode(out, src.as_slice()))
+    let mut buffer = [0u8; ROOM];
+    let src = args.bytes_at(2, &mut buffer)?;
+    Ok(answers::decode(out, src))
 }
 
-// The command that word 1 names.
-fn run<'a>(out: &mut Out, args: &'a Args<'_>) -> Result<Status, Complaint<'a>> {
+// The command that word 1 names. A path goes into a buffer, which a complaint may speak of.
+fn run<'a>(
+    out: &mut Out,
+    args: &Args<'_>,
+    path: &'a mut [u8; PATH_LIMIT],
+) -> Result<Status, Complaint<'a>> {
     if !args.is_given(1) {
         return Ok(help::say_help(out));
     }
-    let status = match args.name(1) {
+    let mut name = [0u8; NAME_LIMIT];
+    let status = match args.name(1, &mut name) {
         b"read" => read(out, args)?,
         b"tidy" => tidy(out, args)?,
         b"report" => report(out, args)?,
-        b"check" => check(out, args)?,
-        b"write" => answers::write(out, &args.last_record_at(2)?),
-        b"length" => answers::length(out, &args.last_record_at(2)?),
-        b"order_fault" => answers::order_fault(out, args.entries_at(2)?.as_slice()),
-        b"validate_resumption_from" => validate_resumption_from(out, args)?,
-        b"authenticate_cids" => authenticate_cids(out, args)?,
+        b"check" => check(out, args, path)?,
+        b"write" => answers::write(out, &args.last_record_at(2, path)?),
+        b"length" => answers::length(out, &args.last_record_at(2, path)?),
+        b"order_fault" => order_fault(out, args)?,
+        b"validate_resumption_from" => validate_resumption_from(out, args, path)?,
+        b"authenticate_cids" => authenticate_cids(out, args, path)?,
         b"number" => number(out, args)?,
         b"--help" | b"-h" => help::say_help(out),
         _ => return Err(Complaint::NoCommand),
@@ -121,11 +148,9 @@ fn run<'a>(out: &mut Out, args: &'a Args<'_>) -> Result<Status, Complaint<'a>> {
 
 // Runs the command, and complains if it has no answer.
 fn answer(rt: &HostRuntime, out: &mut Out) -> Status {
-    let args = match Args::read(rt) {
-        Ok(args) => args,
-        Err(_) => return help::complain(out, rt.alloc(), &Complaint::NoMemory),
-    };
-    match run(out, &args) {
+    let args = Args::read(rt);
+    let mut path = [0u8; PATH_LIMIT];
+    match run(out, &args, &mut path) {
         Ok(status) => status,
         Err(complaint) => help::complain(out, rt.alloc(), &complaint),
     }
