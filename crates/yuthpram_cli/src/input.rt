@@ -1,5 +1,5 @@
-// The words of the command line, and a command's input. The buffers are the callers': but for the
-// system's words of what could not be read, no input and no complaint needs the heap.
+// The words of the command line, and a command's input. They go into buffers that are lent, and need
+// no heap.
 ghost use Rattle.std.specs.Prelude.{◌≡◌, ◌⊎◌, ◌+◌, ◌<◌, ◌≤◌, length, nat_lt, false, IfOk, IfErr, IsErrOf};
 ghost use Rattle.yuthpram_cli.specs.Complaints.{is_of_usage};
 
@@ -20,7 +20,7 @@ const TEXT_LIMIT: usize = 262144;
 
 const ENTRY_LIMIT: usize = 255;
 
-/// The room for an input, and that for an order: one over the limit, so that what is over it shows.
+/// The room for an input, and that for an order: one over the limit. What fills it is too long.
 pub const ROOM: usize = LIMIT + 1;
 
 const TEXT_ROOM: usize = TEXT_LIMIT + 1;
@@ -35,6 +35,9 @@ pub const PATH_LIMIT: usize = 4096;
 
 const DIGIT_LIMIT: usize = 32;
 
+// Of how many words there are: the system counts them by an int.
+const COUNT_BITS: usize = 32;
+
 /// The words of the command line, counted from 0, which is the program's name: the system, which
 /// has them and what they name, and how many there are.
 #[derive(Drop)]
@@ -47,16 +50,15 @@ impl<'r> Args<'r> {
     /// The words that the program was called with. No clause: how many the system has is in no
     /// definition.
     pub fn read(rt: &'r HostRuntime) -> Args<'r> {
-        let mut buffer = [0u8; 1];
-        for count in 0..usize::MAX {
-            if let Err(FillError::NotPresent) = rt.arg(count, &mut buffer) {
-                return Args { rt, count };
+        // By its bits, the highest first: there may be a hundred thousand words.
+        let mut count: usize = 0;
+        for k in (0..COUNT_BITS).rev() {
+            let more = count | (1 << k);
+            if has_words(rt, more) {
+                count = more;
             }
         }
-        Args {
-            rt,
-            count: usize::MAX,
-        }
+        Args { rt, count }
     }
 
     /// The allocator of the system.
@@ -121,7 +123,7 @@ impl<'r> Args<'r> {
         }
     }
 
-    // The words from word `start` on, a space after each, in a buffer with a byte more.
+    // The words from word `start` on, a space after each; they leave a byte of the buffer free.
     fn text_from<'b>(
         &self,
         start: usize,
@@ -142,7 +144,7 @@ impl<'r> Args<'r> {
         Ok(&buffer[..n])
     }
 
-    // What standard input holds, in a buffer with a byte more.
+    // What standard input holds; it leaves a byte of the buffer free.
     fn standard_input<'b>(&self, buffer: &'b mut [u8]) -> Result<&'b [u8], Complaint<'static>>
         ensures within { IfOk result (λ bytes. length bytes.now < length buffer.old) }
         ensures input { IfErr result (λ e. is_of_usage e ≡ false) }
@@ -236,8 +238,7 @@ impl<'r> Args<'r> {
         })
     }
 
-    // The words from word `start` on, or what standard input holds if there are none, in a buffer
-    // with a byte more.
+    // The words from word `start` on, or what standard input holds if there are none.
     fn text_at<'b>(
         &self,
         start: usize,
@@ -298,7 +299,16 @@ impl<'r> Args<'r> {
     }
 }
 
-// All that can be read of a source, in a buffer with a byte more.
+// Whether the system has `n` words or more.
+fn has_words(rt: &HostRuntime, n: usize) -> bool {
+    let mut buffer = [0u8; 1];
+    !matches!(
+        rt.arg(n.saturating_sub(1), &mut buffer),
+        Err(FillError::NotPresent)
+    )
+}
+
+// All that can be read of a source; it leaves a byte of the buffer free.
 fn read_all<'b, R: Read + Drop>(
     mut source: R,
     buffer: &'b mut [u8],

@@ -103,20 +103,28 @@ fn authenticate_cids<'a>(
     Ok(answers::authenticate_cids(out, side, &record, &seen))
 }
 
-fn number(out: &mut Out, args: &Args<'_>) -> Result<Status, Complaint<'static>> {
-    let mut name = [0u8; NAME_LIMIT];
-    if let b"--write" = args.name(2, &mut name) {
-        if args.is_followed(3) {
-            return Err(Complaint::Surplus);
-        }
-        let Some(x) = args.number(3) else {
-            return Err(Complaint::NotDecimal);
-        };
-        return Ok(answers::encode(out, x));
+fn encode(out: &mut Out, args: &Args<'_>) -> Result<Status, Complaint<'static>> {
+    if args.is_followed(3) {
+        return Err(Complaint::Surplus);
     }
+    let Some(x) = args.number(3) else {
+        return Err(Complaint::NotDecimal);
+    };
+    Ok(answers::encode(out, x))
+}
+
+fn decode(out: &mut Out, args: &Args<'_>) -> Result<Status, Complaint<'static>> {
     let mut buffer = [0u8; ROOM];
     let src = args.bytes_at(2, &mut buffer)?;
     Ok(answers::decode(out, src))
+}
+
+fn number(out: &mut Out, args: &Args<'_>) -> Result<Status, Complaint<'static>> {
+    let mut name = [0u8; NAME_LIMIT];
+    match args.name(2, &mut name) {
+        b"--write" => encode(out, args),
+        _ => decode(out, args),
+    }
 }
 
 // The command that word 1 names. A path goes into a buffer, which a complaint may speak of.
@@ -148,8 +156,8 @@ fn run<'a>(
 
 // Runs the command, and complains if it has no answer.
 fn answer(rt: &HostRuntime, out: &mut Out) -> Status {
-    let args = Args::read(rt);
     let mut path = [0u8; PATH_LIMIT];
+    let args = Args::read(rt);
     match run(out, &args, &mut path) {
         Ok(status) => status,
         Err(complaint) => help::complain(out, rt.alloc(), &complaint),
