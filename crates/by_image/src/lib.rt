@@ -1,5 +1,6 @@
 // The operations on a record by its image: what the C interface and the command-line tool call.
-// Bytes that are no image are `IllFormed`, before anything else is looked at.
+// Bytes that are no image are `IllFormed`, before anything else is looked at. An image is asked for
+// first, and its record made where it is used: out of a `Result`, by `?` too, it is copied.
 #![tactic(auto)]
 
 ghost use Rattle.std.specs.Prelude.{◌≡◌};
@@ -24,40 +25,45 @@ pub fn read(side: Side, src: &[u8], record: &mut [u8]) -> Result<usize, Refusal>
 }
 
 /// Checks a record for the side that is to read it, as `rules::check`.
-#[tactic(auto, unfolding(crate::specs::ByImage::image_check))]
+#[tactic(auto, using(refusal::proofs::Laws::raised), unfolding(crate::specs::ByImage::image_check))]
 pub fn check(record: &[u8], side: Side) -> Result<(), Refusal>
     ensures { outcome_of result ≡ image_check «record».now side }
 {
-    let r = imaged::record_from(record)?;
+    let image = imaged::image_in(record)?;
+    let r = imaged::record_at(image);
     rules::check(side, &r)
 }
 
 /// Writes a record to the front of `out`, as `writer::write`.
-#[tactic(auto, unfolding(crate::specs::ByImage::image_write))]
+#[tactic(auto, using(refusal::proofs::Laws::raised), unfolding(crate::specs::ByImage::image_write))]
 pub fn write(record: &[u8], out: &mut [u8]) -> Result<usize, Refusal>
     ensures { (outcome_of result, out.new) ≡ image_write «record».now out.old }
 {
-    let r = imaged::record_from(record)?;
+    let image = imaged::image_in(record)?;
+    let r = imaged::record_at(image);
     writer::write(&r, out)
 }
 
 /// How many bytes writing a record stores, as `length::length`.
-#[tactic(auto, unfolding(crate::specs::ByImage::image_length))]
+#[tactic(auto, using(refusal::proofs::Laws::raised), unfolding(crate::specs::ByImage::image_length))]
 pub fn length(record: &[u8]) -> Result<usize, Refusal>
     ensures { outcome_of result ≡ image_length «record».now }
 {
-    let r = imaged::record_from(record)?;
+    let image = imaged::image_in(record)?;
+    let r = imaged::record_at(image);
     length::length(&r)
 }
 
 /// Whether 0-RTT may go on with a record, given the one remembered, as
 /// `resumption::validate_resumption_from`.
-#[tactic(auto, unfolding(crate::specs::ByImage::image_resume, crate::specs::ByImage::resume_from))]
+#[tactic(auto, using(refusal::proofs::Laws::raised), unfolding(crate::specs::ByImage::image_resume, crate::specs::ByImage::resume_from))]
 pub fn validate_resumption_from(record: &[u8], cached: &[u8]) -> Result<(), Refusal>
     ensures { outcome_of result ≡ image_resume «record».now cached.now }
 {
-    let new = imaged::record_from(record)?;
-    let old = imaged::record_from(cached)?;
+    let record = imaged::image_in(record)?;
+    let cached = imaged::image_in(cached)?;
+    let new = imaged::record_at(record);
+    let old = imaged::record_at(cached);
     resumption::validate_resumption_from(&new, &old)
 }
 
@@ -87,7 +93,7 @@ fn seen_from(
 
 /// Whether the peer whose record this is, is the one that packets came from, as
 /// `authentication::authenticate_cids`.
-#[tactic(auto, unfolding(crate::specs::ByImage::image_authenticate))]
+#[tactic(auto, using(refusal::proofs::Laws::raised), unfolding(crate::specs::ByImage::image_authenticate))]
 pub fn authenticate_cids(
     side: Side,
     record: &[u8],
@@ -100,7 +106,8 @@ pub fn authenticate_cids(
         ≡ image_authenticate side «record».now
         (seen_from initial_src_cid.now original_dst_cid.now retry_seen retry_src_cid.now) }
 {
-    let r = imaged::record_from(record)?;
+    let image = imaged::image_in(record)?;
     let seen = seen_from(initial_src_cid, original_dst_cid, retry_seen, retry_src_cid)?;
+    let r = imaged::record_at(image);
     authentication::authenticate_cids(side, &r, &seen)
 }

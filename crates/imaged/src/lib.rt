@@ -1,7 +1,9 @@
 // The records and connection IDs of images: reading what crate image stores.
 #![tactic(auto)]
 
-ghost use Rattle.std.specs.Prelude.{◌≡◌, [], ◌+◌, ◌≤◌, ◌<◌, length, get_or};
+ghost use Rattle.std.specs.Prelude.{◌≡◌, [], ◌+◌, ◌≤◌, ◌<◌, length, get_or, IfOk, IfErr};
+ghost use Rattle.refusal.specs.Number.{number_of};
+ghost use Rattle.refusal.specs.Outcome.{accepted, refused};
 ghost use Rattle.refusal.specs.Answer.{outcome_of};
 ghost use Rattle.record.specs.Values.{token_of, of_address};
 ghost use Rattle.version_information.specs.VersionInformation.{versions_with};
@@ -137,7 +139,8 @@ fn versions_at(s: &[u8; RECORD_SIZE]) -> VersionInformation
     VersionInformation::from_bytes(flag_at(s, 304), s[305], &bytes_at(s, 306))
 }
 
-fn record_at(s: &[u8; RECORD_SIZE]) -> TransportParameters
+/// The record of an image, which need not be well formed.
+pub fn record_at(s: &[u8; RECORD_SIZE]) -> TransportParameters
     ensures { result ≡ record_at s.now }
 {
     TransportParameters {
@@ -196,17 +199,28 @@ fn is_image(s: &[u8; RECORD_SIZE]) -> bool
     flags_hold(s) & zero_if_absent(s, 90) & zero_if_absent(s, 99)
 }
 
-/// The record of an image, which need not be well formed; `IllFormed` for what is no image.
+/// The image that some bytes are; `IllFormed` for what is none.
 #[tactic(auto, using(crate::proofs::Places::image_long), unfolding(image::specs::Image::record_from))]
-pub fn record_from(image: &[u8]) -> Result<TransportParameters, Refusal>
-    ensures { outcome_of result ≡ record_from image.now }
+pub fn image_in(bytes: &[u8]) -> Result<&[u8; RECORD_SIZE], Refusal>
+    ensures same { IfOk result (λ image. image.now ≡ bytes.now) }
+    ensures image { IfOk result (λ image. record_from bytes.now ≡ accepted (record_at image.now)) }
+    ensures none { IfErr result (λ e. record_from bytes.now ≡ refused (number_of e)) }
 {
-    let Some(image) = image.as_array() else {
+    let Some(image) = bytes.as_array() else {
         return Err(Refusal::IllFormed);
     };
     if !is_image(image) {
         return Err(Refusal::IllFormed);
     }
+    Ok(image)
+}
+
+/// The record of an image, which need not be well formed; `IllFormed` for what is no image.
+#[tactic(auto, using(refusal::proofs::Laws::raised))]
+pub fn record_from(image: &[u8]) -> Result<TransportParameters, Refusal>
+    ensures { outcome_of result ≡ record_from image.now }
+{
+    let image = image_in(image)?;
     Ok(record_at(image))
 }
 
