@@ -134,13 +134,11 @@ enum Character {
 fn character_of(b: u8) -> Character
     ensures { IsCharacter b result }
 {
-    if is_gap(b, b':') {
-        return Character::Gap;
-    }
     match b {
         b'0'..=b'9' => Character::Digit(b - b'0'),
         b'a'..=b'f' => Character::Digit(b - b'a' + 10),
         b'A'..=b'F' => Character::Digit(b - b'A' + 10),
+        _ if is_gap(b, b':') => Character::Gap,
         _ => Character::Other,
     }
 }
