@@ -253,8 +253,8 @@ fn answer_of(operation: Operation, h: Head, body: &[u8], out: &mut [u8]) -> Call
     call(operation, input, room)
 }
 
-// Whether `out` holds the bytes due, and what stood there behind them: by slices, which are compared
-// eight bytes and more at a time.
+// Whether `out` holds the bytes due, and what stood there behind them: by slices, which are
+// compared eight bytes and more at a time.
 fn holds(out: &[u8; MOST], due: &[u8]) -> bool {
     let before = [FILL; MOST];
     let n = due.len();

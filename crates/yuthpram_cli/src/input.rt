@@ -1,6 +1,7 @@
-// The words of the command line, and a command's input. They go into buffers that are lent, and need
-// no heap.
-ghost use Rattle.std.specs.Prelude.{◌≡◌, ◌⊎◌, ◌+◌, ◌<◌, ◌≤◌, length, nat_lt, false, IfOk, IfErr, IsErrOf};
+// The words of the command line, and a command's input. They go into buffers that are lent, and
+// need no heap.
+ghost use Rattle.std.specs.Prelude.{◌≡◌, ◌⊎◌, ◌+◌, ◌<◌, ◌≤◌, length, nat_lt, false};
+ghost use Rattle.std.specs.Prelude.{IfOk, IfErr, IsErrOf};
 ghost use Rattle.yuthpram_cli.specs.Complaints.{is_of_usage};
 
 use crate::complaint::Complaint;
@@ -20,19 +21,21 @@ const TEXT_LIMIT: usize = 262144;
 
 const ENTRY_LIMIT: usize = 255;
 
-/// The room for an input, and that for an order: one over the limit. What fills it is too long.
+/// The room for an input, in bytes: one over the limit. What fills it is too long.
 pub const ROOM: usize = LIMIT + 1;
 
 const TEXT_ROOM: usize = TEXT_LIMIT + 1;
 
+/// The room for an order, in entries: one over the limit, too.
 pub const ENTRY_ROOM: usize = ENTRY_LIMIT + 1;
 
-/// The longest name of a command, an option or a side that is looked at, the longest path, and the
-/// longest decimal number.
+/// The longest name of a command, an option or a side that is looked at, in bytes.
 pub const NAME_LIMIT: usize = 32;
 
+/// The longest path, in bytes. One that is longer is taken as empty.
 pub const PATH_LIMIT: usize = 4096;
 
+// The longest decimal number.
 const DIGIT_LIMIT: usize = 32;
 
 // Of how many words there are: the system counts them by an int.
@@ -111,7 +114,7 @@ impl<'r> Args<'r> {
         parse_decimal(self.word(i, &mut buffer))
     }
 
-    /// The side that word 2 names.
+    /// The side that word 2 names, client or server; `NoSide` for another word, or none.
     pub fn side(&self) -> Result<Side, Complaint<'static>>
         ensures { IfErr result (λ e. e ≡ Complaint.NoSide) }
     {
@@ -184,7 +187,7 @@ impl<'r> Args<'r> {
         Ok(record)
     }
 
-    /// The same of the last word: a word behind it is too many.
+    /// The same of the last word: a word behind it is too many, and nothing is read.
     pub fn last_record_at<'a>(
         &self,
         i: usize,
@@ -219,7 +222,8 @@ impl<'r> Args<'r> {
         }
     }
 
-    /// The IDs that words 3 to 5 say packets carried.
+    /// The IDs that words 3 to 5 say packets carried: hexadecimal, or (empty); the third none
+    /// without a Retry. `NoIds`, `NoId` or `TooLong` of the first that is amiss.
     pub fn seen(&self) -> Result<SeenImages, Complaint<'static>>
         ensures { IfOk result (λ seen. 5 < self.now.count) }
     {
